@@ -211,7 +211,13 @@ impl<T, A: Allocator> Block<T, A> {
 
     /// Moves the `k` items that start at slot `from` of this block to the slots `to..to + k` of the
     /// block `other`.
-    pub fn move_run_to(&mut self, from: usize, other: &mut Block<T, A>, to: usize, k: usize)
+    pub fn move_run_to<B: Allocator>(
+        &mut self,
+        from: usize,
+        other: &mut Block<T, B>,
+        to: usize,
+        k: usize,
+    )
         requires in_bounds { from + k ≤ length self.old.slots }
         requires target { to + k ≤ length other.old.slots }
         requires filled { AreFilled self.old.slots from k }
@@ -230,10 +236,10 @@ impl<T, A: Allocator> Block<T, A> {
     // Moves items as `move_run_to` does, or relocates all items of this block to the new block
     // `other`: then `other` continues the counters of this block, and the items count as copies.
     // The ghost parameter `relocates` says which of both.
-    pub(crate) fn move_items_to(
+    pub(crate) fn move_items_to<B: Allocator>(
         &mut self,
         from: usize,
-        other: &mut Block<T, A>,
+        other: &mut Block<T, B>,
         to: usize,
         k: usize,
     )

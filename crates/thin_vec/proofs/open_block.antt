@@ -2,7 +2,6 @@
 -- automatically, so `Lib.antt` does not mention it.
 pub mod PairTestLemmas
 pub mod MiddleLemmas
-pub mod MoveMiddleLemmas
 pub mod RetainMiddleLemmas
 pub mod StepLemmas
 pub mod TestLemmas

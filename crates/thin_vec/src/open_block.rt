@@ -319,8 +319,7 @@ impl<T, A: Allocator> OpenBlock<T, A> {
         }
     }
 
-    // Moves the middle items into the gap of `other`, and joins the gaps around them. (The blocks
-    // can have different types of allocators, so this is a loop, and no call of `move_run_to`.)
+    // Moves the middle items into the gap of `other`, and joins the gaps around them.
     pub(crate) fn move_middle_to<B: Allocator>(&mut self, other: &mut OpenBlock<T, B>)
         requires room { length self.old.middle ≤ other.old.gap_before }
         ensures changes { self.new ≡ record self.old {
@@ -334,9 +333,10 @@ impl<T, A: Allocator> OpenBlock<T, A> {
           cost = add_moves (length self.old.middle) other.old.cost;
         } }
     {
-        while self.middle_len() > 0 {
-            other.append_to_front(self.take_first());
-        }
+        let count = self.middle_len();
+        self.block.move_run_to(self.middle_start, &mut other.block, other.front_end, count);
+        other.front_end += count;
+        self.middle_start = self.middle_end;
         self.merge_gaps();
     }
 

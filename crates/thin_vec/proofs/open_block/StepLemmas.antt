@@ -1,22 +1,22 @@
--- These lemmas state what an open block contains after it was opened, filled or closed, or after
--- its gaps or its tail items were moved.
-use Rattle.std.proofs.Common.{◌≡◌, ℕ, suc, ◌+◌, ◌-◌, ◌<◌, ◌≤◌, List, [], ◌∷◌, ◌++◌, Option, None, length, take, drop, refl, sym, ap, ◌∙◌, arith, length-append, append_assoc}
+-- These lemmas state what an open block contains after it was opened, filled or closed, after its
+-- gaps or its tail items were moved, or after its middle items were moved to another block.
+use Rattle.std.proofs.Common.{◌≡◌, ℕ, suc, ◌+◌, ◌-◌, ◌<◌, ◌≤◌, List, [], ◌∷◌, ◌++◌, Option, None, length, take, drop, refl, sym, subst, ap, ◌∙◌, arith, length-append, append_assoc}
 use Rattle.std.proofs.lemmas.List.{length-drop, length-take, length-take-le, replicate-append-replicate, set_split}
 use Rattle.std.proofs.lemmas.List.Edits.{split_between}
 use Rattle.std.specs.Prelude.{IsSome, slice_range}
 use lib.ListN.{set}
 use Rattle.thin_block.specs.Block.{block_view}
 use Rattle.thin_block.specs.Cost.{add_moves}
-use Rattle.thin_block.specs.Slots.{empty_slots, packed_slots, filled_slots, items_in, write_slots, move_slots, slot}
+use Rattle.thin_block.specs.Slots.{clear_slots, empty_slots, packed_slots, filled_slots, items_in, slot_range, write_slots, move_slots, slot}
 use Rattle.thin_block.specs.declared.block.Block.{Block}
-use Rattle.thin_block.proofs.SlotsLemmas.{written-at, moved-left, moved-right}
-use Rattle.thin_vec.specs.OpenBlock.{IsOpen, open_view}
+use Rattle.thin_block.proofs.SlotsLemmas.{written-at, moved-left, moved-right, run-at}
+use Rattle.thin_vec.specs.OpenBlock.{IsOpen, IsOpenViewOf, open_view}
 use Rattle.thin_vec.specs.OpenView.{OpenView, items_of, tail_end}
 use Rattle.thin_vec.specs.ThinVec.{IsListBlock}
 use Rattle.thin_vec.specs.declared.open_block.OpenBlock.TheInside.{Inside}
 use Rattle.thin_vec.proofs.list.InsertRemoveLemmas.{full-append}
 use Rattle.thin_vec.proofs.ListBlockLemmas.{length-empty, length-full, thin-room}
-use Rattle.thin_vec.proofs.OpenBlockLemmas.{Found, at-middle, at-tail, by-tail, empty-more, found, past_middle, past_tail, reached, slot-in-empty, slot-in-full, to_tail}
+use Rattle.thin_vec.proofs.OpenBlockLemmas.{Found, at-middle, at-tail, by-middle, by-tail, empty-more, found, past_middle, past_tail, reached, slot-in-empty, slot-in-full, to_middle, to_tail}
 
 pub set-written : {T : Type 0} (s : List (Option T)) (i : ℕ) (y : Option T) → i < length s
     → set s i y ≡ write_slots i (y ∷ []) s
@@ -232,6 +232,48 @@ module _ {T A : Type 0} where
           cost = spent i;
         });
       }
+
+  -- In this module, the `k` middle items of the open block `h` are moved to another block.
+  module _ (h : Inside T A) (o : IsOpen h) {v : OpenView T A} (is : open_view h ≡ v) {k : ℕ}
+      (all : k ≡ length v.middle) where
+    shown : IsOpenViewOf h v
+    shown = subst (IsOpenViewOf h) is o
+
+    count : k ≡ length (filled_slots v.middle)
+    count = all ∙ sym (length-full v.middle)
+
+    pub middle-slots : slot_range h.middle_start k h.block.slots ≡ filled_slots v.middle
+    middle-slots =
+        ap (λ (r : List (Option T)). slot_range h.middle_start k r) (by-middle h v shown)
+        ∙ run-at h.middle_start k (to_middle v) (filled_slots v.middle) (past_middle v)
+        (sym (at-middle h v shown)) count
+
+    pub empty-view : (b : Block T A) → block_view b ≡ record (block_view h.block) {
+      slots = clear_slots h.middle_start k h.block.slots;
+    }
+        → Found (record h { block = b; middle_start = h.middle_end }) (record v {
+          gap_before = v.gap_before + length v.middle;
+          middle = [];
+        })
+    empty-view b now =
+        let w : OpenView T A =
+        record v { gap_before = v.gap_before + length v.middle; middle = [] } in
+        let past : v.capacity - tail_end v ≡ v.capacity - tail_end w = omega arith in
+        found (record h { block = b; middle_start = h.middle_end }) w (record {
+          slots = ap (λ z. z.slots) now
+              ∙ (ap (λ (r : List (Option T)). clear_slots h.middle_start k r) (by-middle h v shown)
+              ∙ (written-at h.middle_start (to_middle v) (empty_slots k) (filled_slots v.middle)
+              (past_middle v) (sym (at-middle h v shown)) (length-empty T k ∙ count)
+              ∙ rw (past, all) (simp (append_assoc, empty-more))));
+          front = shown.front;
+          gap_before = omega (arith, shown.gap_before, shown.middle);
+          middle = omega arith;
+          gap_after = shown.gap_after;
+          tail = shown.tail;
+          room = shown.room;
+        })
+        (ap (λ z. z.alloc) now ∙ ap (λ z. z.alloc) is)
+        (ap (λ z. z.cost) now ∙ ap (λ z. z.cost) is)
 
   -- In this module, the tail items of the open block `h` are moved up by `count` slots. Before the
   -- move, at least `count` empty slots follow the tail items.

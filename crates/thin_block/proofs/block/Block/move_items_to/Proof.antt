@@ -8,7 +8,7 @@ use base.Fml.{ftrue, froom, flft}
 use base.Fraction.{full_share}
 use base.Logic.{SProp}
 use mir.MapTy.{inst_fn}
-use mir.Syntax.{Fn, ty_array, ty_unit}
+use mir.Syntax.{Args, Fn, a_type, dcons, dnil, ty_array, ty_unit}
 use mir.Val.{Val, WT, has_ty, vint, vptr, vunit}
 use prog.Wp.{Env, WpFn}
 use contract.Running.{tables}
@@ -21,7 +21,7 @@ use types.Run.{stop, fld, load, unit_lit, of_opd, no_more, and_then, first, bloc
 use types.Run.{enter}
 use denote.Array.{Array}
 use denote.Memory.{part_at}
-use denote.Param.{layout}
+use denote.Param.{bounded, layout, param}
 use denote.RattleType.{RattleType, owns}
 use denote.Signature.{plain, types_at}
 use denote.Steps.{nothing}
@@ -39,10 +39,11 @@ use Rattle.thin_block.specs.Cost.{Cost, add_moves, add_realloc}
 use Rattle.thin_block.specs.Lends.{with_slots}
 use Rattle.thin_block.specs.Ownership.{slots_own}
 use Rattle.thin_block.specs.Slots.{filled_slots, empty_slots, slot, write_slots, clear_slots}
+use Rattle.thin_block.specs.contracts.block.Block as block
 use Rattle.thin_block.specs.contracts.block.Block.move_items_to.{ended, clauses}
 use Rattle.thin_block.specs.contracts.block.Block.move_items_to.Key.{name as #self}
 use Rattle.thin_block.proofs.Addresses.{near, slot_found}
-use Rattle.thin_block.proofs.HeaderMemory.{args, Br, header, t, block_opens, block_closes}
+use Rattle.thin_block.proofs.HeaderMemory.{Br, header, t, block_opens, block_closes}
 use Rattle.thin_block.proofs.MethodSignatures.{item, source, others, dropped, all_go, heard_each}
 use Rattle.thin_block.proofs.SlotMemory.{sz, reach, around, run_out, run_in, to_items, of_items}
 use Rattle.thin_block.proofs.SlotMemory.{to_room, of_room}
@@ -52,38 +53,42 @@ use Rattle.thin_block.proofs.block.Block.move_items_to.Code as compiled
 use Rattle.thin_block.proofs.block.Block.move_items_to.Statement.{statement}
 
 pub move_items_to_spec : {M : Type 1} → statement M
-move_items_to_spec 𝓤 𝓛 𝓜 𝓡 wired T A LT LA g d dd met md =
+move_items_to_spec 𝓤 𝓛 𝓜 𝓡 wired T A B LT LA LB g d dd g' d' dd' met md met' md' =
     let H = 𝓛.H in
-    let E = item LT in let Y = source LA g d dd in let En₀ = ended T A g d dd in
-    let B : RattleType = Br E Y in
+    let E = item LT in let Y = source LA g d dd in let Z = source LB g' d' dd' in
+    let En₀ = ended T A B g d dd g' d' dd' in
+    -- `Other` is `Br E Z`, except that the signature writes `B` as its type parameter 2.
+    let Other : RattleType = block.the_row (param 0 T) (param 2 B) g' in
     let ps = En₀.signature.params in let ss = others (others (others ps)) in
-    let c = clauses T A g d dd 𝓛 𝓜.mem 𝓡.returns in
-    let fn : Fn = inst_fn (args E Y) compiled.function in
+    let c = clauses T A B g d dd g' d' dd' 𝓛 𝓜.mem 𝓡.returns in
+    let args : Args = bounded (a_type ∷ a_type ∷ a_type ∷ []) (T, (A, (B, tt)))
+    (dcons d (dcons dd (dcons d' (dcons dd' dnil)))) in
+    let fn : Fn = inst_fn args compiled.function in
     let hs : Stays ps En₀.kept = (
-      stay_ref (0 ∷ []) tt (plain (λ _. B)),
+      stay_ref (0 ∷ []) tt (plain (λ _. Br E Y)),
       (
         stay_dropped (slot_at 1 ps) En₀.kept.1.0,
-        (stay_ref (1 ∷ []) tt (plain (λ _. B)), dropped ss En₀.kept.1.1.1),
+        (stay_ref (1 ∷ []) tt (plain (λ _. Other)), dropped ss En₀.kept.1.1.1),
       ),
     ) in
     let 𝓣 = tables 𝓤 H 𝓜 𝓡 𝓡.env in
     proved_at 𝓛 En₀ hs c 𝓜 𝓡 (
-      Goes-ref 𝓛 4 0 tt (plain (λ _. B)),
+      Goes-ref 𝓛 5 0 tt (plain (λ _. Br E Y)),
       (
-        Goes-dropped 𝓛 4 (slot_at 1 ps) En₀.kept.1.0 (λ κs x f. refl),
+        Goes-dropped 𝓛 5 (slot_at 1 ps) En₀.kept.1.0 (λ κs x f. refl),
         (
-          Goes-ref 𝓛 4 1 tt (plain (λ _. B)),
+          Goes-ref 𝓛 5 1 tt (plain (λ _. Other)),
           all_go 𝓛 ss En₀.kept.1.1.1
               ((λ κs x f. refl), ((λ κs x f. refl), tt)),
         ),
       ),
     )
-    (#self (args E Y)) fn (compiled.unfolded 𝓤 H 𝓜 𝓡 wired (T, (A, tt)) d dd) (λ z are.
+    (#self args) fn (compiled.unfolded 𝓤 H 𝓜 𝓡 wired (T, (A, (B, tt))) d dd d' dd') (λ z are.
     let Post : Val → SProp 𝓤 = (walk_of 𝓛 En₀ hs c).post z in
     let a = z.0.3 in
     let vss = z.0.4 in
-    let (κ₀, (κ₁, (κ₂, (κ₃, _)))) = z.0.0 in
-    let (q₀, (q₁, (q₂, (q₃, _)))) = z.0.1 in
+    let (κ₀, (κ₁, (κ₂, (κ₃, (κ₄, _))))) = z.0.0 in
+    let (q₀, (q₁, (q₂, (q₃, (q₄, _))))) = z.0.1 in
     let (from_block, (from, (to_block, (to, (k, _))))) = a in
     let relocates : Bool = z.1 in
     let ((is₀, _), ((is₁, f₁), ((is₂, _), ((is₃, f₃), ((is₄, fk), _))))) = are in
@@ -97,11 +102,11 @@ move_items_to_spec 𝓤 𝓛 𝓜 𝓡 wired T A LT LA g d dd met md =
     let Target : Type 0 = to + k ≤ length y.slots in
     let Filled : Type 0 = (i : ℕ) → from ≤ i → i < from + k → IsSome (slot x.slots i) in
     let Empty : Type 0 = (i : ℕ) → to ≤ i → i < to + k → slot y.slots i ≡ None in
-    qed 𝓛 (((‵ (flft κ₀ q₀) ⊛ ‵ (flft κ₁ q₁) ⊛ ‵ (flft κ₂ q₂) ⊛ ‵ (flft κ₃ q₃) ⊛ ‵ ftrue) ⊛ ‵
-    (owns (types_at ps z.0.0) a vss))
+    qed 𝓛 (((‵ (flft κ₀ q₀) ⊛ ‵ (flft κ₁ q₁) ⊛ ‵ (flft κ₂ q₂) ⊛ ‵ (flft κ₃ q₃) ⊛ ‵ (flft κ₄ q₄)
+    ⊛ ‵ ftrue) ⊛ ‵ (owns (types_at ps z.0.0) a vss))
     ∷ raw ((c z.0.0 z.0.3).requires z.1) ∷ []) ∵
-    move ! (1 ∷ []) $ heard_each ! (_ ∷ _ ∷ Source ∷ Target ∷ Filled ∷ Empty ∷ _ ∷ _ ∷ [])
-    (λ lives _ source target filled bare _ _.
+    move ! (1 ∷ []) $ heard_each ! (_ ∷ _ ∷ _ ∷ Source ∷ Target ∷ Filled ∷ Empty ∷ _ ∷ _ ∷ [])
+    (λ lives _ _ source target filled bare _ _.
     let items = full-run x.slots from k source filled in
     let xs : List T.Denot = items.0 in
     let long : length xs ≡ k = sym (length-map xs Some) ∙ ap length (sym items.1)
@@ -122,9 +127,9 @@ move_items_to_spec 𝓤 𝓛 𝓜 𝓡 wired T A LT LA g d dd met md =
     ) $
     let En : Env 𝓤 H = env fn.locals l in
     block_opens E Y ! tt x rb ro (λ b o at fits. move ! (6 ∷ 7 ∷ 8 ∷ []) $
-    block_opens E Y ! tt y sb so (λ b' o' at' fits'.
+    block_opens E Z ! tt y sb so (λ b' o' at' fits'.
     -- The context is now: the header, the slots and the open borrow (4 entries) of `other`; the
-    -- same six entries for `self`; the lifetime tokens of `T` and `A`.
+    -- same six entries for `self`; the lifetime tokens of `T`, `A` and `B`.
     let src : ℕ = from * s + (o + 16) in
     let dst : ℕ = to * s + (o' + 16) in
     let light : k * s < 2 ^ 63 = reach (R E) k (length x.slots) fits (omega arith) in
@@ -145,9 +150,9 @@ move_items_to_spec 𝓤 𝓛 𝓜 𝓡 wired T A LT LA g d dd met md =
     (run_out E 𝓛 b (o + 16) x.slots from k source (filled_slots xs) items.1) $ split ! $
     use1 𝓛 (‵ (part_at (Array (R E) k) full_share xs b src)) (to_items E 𝓛 b k xs src long) $
     move ! (0 ∷ 2 ∷ []) $ move ! (14 ∷ []) $ split ! $ move ! (2 ∷ 3 ∷ 0 ∷ []) $
-    -- The context is now: the items; their empty new slots; the lifetime tokens of `T` and `A`; the
-    -- other slots of `self`; the other slots of `other`; the header and the open borrow of `other`
-    -- (5 entries); the same for `self`.
+    -- The context is now: the items; their empty new slots; the lifetime tokens of `T`, `A` and
+    -- `B`; the other slots of `self`; the other slots of `other`; the header and the open borrow of
+    -- `other` (5 entries); the same for `self`.
     let G = Copies T 𝓛 𝓜.mem 𝓡.returns in
     let y₀ : G.Ghost = at_copies T 𝓛 𝓜.mem 𝓡.returns κ₂ q₂ b src b' dst k xs in
     use3 𝓛 (raw (G.pre y₀)) (Copies-goes T 𝓛 𝓜.mem 𝓡.returns κ₂ q₂ b src b' dst k xs lives fk light)
@@ -169,22 +174,23 @@ move_items_to_spec 𝓤 𝓛 𝓜 𝓡 wired T A LT LA g d dd met md =
     let long_full : length (filled_slots xs) ≡ k = length-map xs Some ∙ long in
     let long_to : length written_to ≡ length y.slots =
     length-written to (filled_slots xs) y.slots (omega arith) in
-    let y' : B.Denot = record (with_slots y written_to long_to) { cost = cost } in
+    let y' : (Br E Z).Denot = record (with_slots y written_to long_to) { cost = cost } in
     use1 𝓛 (‵ (slots_own (R E) (filled_slots xs) b' dst)) (of_items E 𝓛 b' k xs dst) $
     move ! (0 ∷ 5 ∷ []) $
     use2 𝓛 (‵ (slots_own (R E) written_to b' (o' + 16)))
     (run_in E 𝓛 b' (o' + 16) y.slots to k target (filled_slots xs) long_full) $
     move ! (5 ∷ 0 ∷ 6 ∷ 7 ∷ 8 ∷ 9 ∷ []) $
-    rewrite ! 0 (λ (n : ℕ). ‵ (header (t E Y) (R E) y.len n y.alloc b' o')) (sym long_to) refl $
-    block_closes E Y ! tt y' b' o' sb so at' $
+    rewrite ! 0 (λ (n : ℕ). ‵ (header (t E Z) (R E) y.len n y.alloc b' o')) (sym long_to) refl $
+    block_closes E Z ! tt y' b' o' sb so at' $
     -- The context is now: a ghost resource that records the value of `other`; the borrow of `other`
     -- and its lifetime token; the memory at the old address of the items; the lifetime tokens of
-    -- `T` and `A`; the other slots of `self`; the header and the open borrow of `self` (5 entries).
+    -- `T`, `A` and `B`; the other slots of `self`; the header and the open borrow of `self` (5
+    -- entries).
     let left : List (Option T.Denot) = clear_slots from k x.slots in
     let long_empty : length (empty_slots {T = T.Denot} k) ≡ k = length-replicate k None in
     let long_left : length left ≡ length x.slots =
     length-written from (empty_slots k) x.slots (omega arith) in
-    let x' : B.Denot = with_slots x left long_left in
+    let x' : (Br E Y).Denot = with_slots x left long_left in
     move ! (3 ∷ 6 ∷ []) $ use1 𝓛 (‵ (slots_own (R E) (empty_slots k) b src)) (of_room E 𝓛 b k src) $
     use2 𝓛 (‵ (slots_own (R E) left b (o + 16)))
     (run_in E 𝓛 b (o + 16) x.slots from k source (empty_slots k) long_empty) $
@@ -192,8 +198,8 @@ move_items_to_spec 𝓤 𝓛 𝓜 𝓡 wired T A LT LA g d dd met md =
     rewrite ! 0 (λ (n : ℕ). ‵ (header (t E Y) (R E) x.len n x.alloc b o)) (sym long_left) refl $
     block_closes E Y ! tt x' b o rb ro at $
     -- The context is now: a ghost resource that records the value of `self`; the borrow of `self`
-    -- and its lifetime token; the same three entries for `other`; the lifetime tokens of `T` and
-    -- `A`.
+    -- and its lifetime token; the same three entries for `other`; the lifetime tokens of `T`,
+    -- `A` and `B`.
     returns ! (look_at ! 0 refl) $ free_all ! refl $
     feq_i ! (List Val) vss.0 (vptr rb ro ∷ []) is₀ $ fjoin3 ! $ move ! (2 ∷ 3 ∷ []) $
     feq_i ! (List Val) vss.1.1.0 (vptr sb so ∷ []) is₂ $ fjoin3 ! $

@@ -18,18 +18,21 @@ move_items_to-requires g c κs within =
         (
           search rules,
           (
-            omega (
-              arith,
-              ap length made,
-              bare-long g.row.T.Denot c.args.cap,
-              c.requires.len,
-              c.requires.len_le_cap,
-            ),
+            search rules,
             (
-              (λ i p q. packed-filled old.slots old.len c.requires.packed i (omega arith)),
+              omega (
+                arith,
+                ap length made,
+                bare-long g.row.T.Denot c.args.cap,
+                c.requires.len,
+                c.requires.len_le_cap,
+              ),
               (
-                (λ i p q. ap (λ s. slot s i) made ∙ empty-slot c.args.cap i),
-                ((λ _. c.requires.len), search rules),
+                (λ i p q. packed-filled old.slots old.len c.requires.packed i (omega arith)),
+                (
+                  (λ i p q. ap (λ s. slot s i) made ∙ empty-slot c.args.cap i),
+                  ((λ _. c.requires.len), search rules),
+                ),
               ),
             ),
           ),
