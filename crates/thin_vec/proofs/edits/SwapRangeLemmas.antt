@@ -60,130 +60,159 @@ module _ {T : Type 0} (xs ys : List T) (i k : ℕ) (within : i + k ≤ length xs
         few,
       )
 
--- In this module, `ys` is not shorter than the range `i..j`. The lists become `xs'` and `ys'` when
--- the pairs are exchanged, and then the rest of `ys'` moves into `xs'`.
-module _ {T : Type 0} (xs ys xs' ys' : List T) (i j m : ℕ) (order : i ≤ j)
-    (within : j ≤ length xs) (longer : j - i ≤ length ys) (count : m ≡ length ys)
-    (come : xs' ≡ replace_range xs i (i + (j - i)) (take (j - i) ys))
-    (go : ys' ≡ slice_range xs i (i + (j - i)) ++ drop (j - i) ys) where
-  past-run : i + (j - i) ≡ j
-  past-run = omega (arith, order)
+-- In this module, the `m` items of `ys` are exchanged with the range `i..j`. The lists become `xs₁`
+-- and `ys₁` when the first `k` items have been exchanged pair by pair, and `xs₂` and `ys₂` when the
+-- other `n` items of `ys` have moved into the first list. What is left of the range moves last.
+module _ {T : Type 0} (xs ys xs₁ ys₁ xs₂ ys₂ : List T) (i j k m n : ℕ) (order : i ≤ j)
+    (within : j ≤ length xs) (count : m ≡ length ys) (narrow : k ≤ j - i) (parts : k + n ≡ m)
+    (come : xs₁ ≡ replace_range xs i (i + k) (take k ys))
+    (go : ys₁ ≡ slice_range xs i (i + k) ++ drop k ys)
+    (grown : xs₂ ≡ replace_range xs₁ (i + k) (i + k) (slice_range ys₁ k m))
+    (left : ys₂ ≡ remove_range ys₁ k m) where
+  run-within : i + k ≤ length xs
+  run-within = omega (arith, order, within, narrow)
 
-  run-within : i + (j - i) ≤ length xs
-  run-within = omega (arith, order, within)
+  few : k ≤ length ys
+  few = omega (arith, parts, count)
 
-  abbrev long-head : List T
-  long-head = take i xs ++ take (j - i) ys
+  abbrev run : List T
+  run = slice_range xs i (i + k)
 
-  long-most : length long-head ≡ j
-  long-most = length-head xs ys i (j - i) run-within longer ∙ past-run
+  abbrev head : List T
+  head = take i xs ++ take k ys
 
-  long-now : xs' ≡ long-head ++ drop j xs
-  long-now = come ∙ ap (λ (n : ℕ). long-head ++ drop n xs) past-run
+  abbrev new : List T
+  new = take i xs ++ ys
 
-  long-rest : slice_range ys' (j - i) m ≡ drop (j - i) ys
-  long-rest =
-      (λ t. slice_range (go t) (j - i) (count t))
-      ∙ (ap (take (length ys - (j - i)))
-      (drop_at (slice_range xs i (i + (j - i))) (drop (j - i) ys) (j - i)
-      (length-run xs ys i (j - i) run-within longer))
-      ∙ take_all (length ys - (j - i)) (drop (j - i) ys) (omega (arith, length-drop (j - i) ys)))
+  run-size : length run ≡ k
+  run-size = length-run xs ys i k run-within few
 
-  pub longer-in : (zs : List T) → zs ≡ replace_range xs' j j (slice_range ys' (j - i) m)
+  head-size : length head ≡ i + k
+  head-size = length-head xs ys i k run-within few
+
+  new-size : length new ≡ i + m
+  new-size =
+      omega (arith, length-append (take i xs) ys, before-run xs ys i k run-within few, count)
+
+  rest : slice_range ys₁ k m ≡ drop k ys
+  rest =
+      (λ t. slice_range (go t) k (count t))
+      ∙ (ap (take (length ys - k)) (drop_at run (drop k ys) k run-size)
+      ∙ take_all (length ys - k) (drop k ys) (omega (arith, length-drop k ys)))
+
+  now : xs₂ ≡ new ++ drop (i + k) xs
+  now =
+      let before : take (i + k) xs₁ ≡ head =
+      ap (take (i + k)) come ∙ take_at head (drop (i + k) xs) (i + k) head-size in
+      let after : drop (i + k) xs₁ ≡ drop (i + k) xs =
+      ap (drop (i + k)) come ∙ drop_at head (drop (i + k) xs) (i + k) head-size in
+      let whole : head ++ drop k ys ≡ new =
+      append_assoc (take i xs) (take k ys) (drop k ys)
+      ∙ ap (λ (l : List T). take i xs ++ l) (take-append-drop k ys) in
+      grown
+      ∙ ((λ t. (before t ++ rest t) ++ after t)
+      ∙ ap (λ (l : List T). l ++ drop (i + k) xs) whole)
+
+  gone : ys₂ ≡ run
+  gone =
+      let before : take k ys₁ ≡ run = ap (take k) go ∙ take_at run (drop k ys) k run-size in
+      let all : length ys₁ ≤ m =
+      omega (arith, ap length go, length-out xs ys i k run-within few, count) in
+      left ∙ ((λ t. before t ++ drop_all m ys₁ all t) ∙ append-nil run)
+
+  pub size-in : length xs₂ ≡ length xs + n
+  size-in =
+      omega (
+        arith,
+        ap length now,
+        length-append new (drop (i + k) xs),
+        new-size,
+        length-drop (i + k) xs,
+        run-within,
+        parts,
+      )
+
+  pub size-out : length ys₂ ≡ k
+  size-out = ap length gone ∙ run-size
+
+  past-new : drop (i + m) xs₂ ≡ drop (i + k) xs
+  past-new = ap (drop (i + m)) now ∙ drop_at new (drop (i + k) xs) (i + m) new-size
+
+  pub swapped-in : (zs : List T) → zs ≡ remove_range xs₂ (i + m) (j + n)
       → zs ≡ replace_range xs i j ys
-  longer-in zs moved =
-      let before : take j xs' ≡ long-head =
-      ap (take j) long-now ∙ take_at long-head (drop j xs) j long-most in
-      let after : drop j xs' ≡ drop j xs =
-      ap (drop j) long-now ∙ drop_at long-head (drop j xs) j long-most in
-      let new : long-head ++ drop (j - i) ys ≡ take i xs ++ ys =
-      append_assoc (take i xs) (take (j - i) ys) (drop (j - i) ys)
-      ∙ ap (λ (l : List T). take i xs ++ l) (take-append-drop (j - i) ys) in
-      moved
-      ∙ ((λ t. (before t ++ long-rest t) ++ after t) ∙ ap (λ (l : List T). l ++ drop j xs) new)
-
-  pub longer-out : (zs : List T) → zs ≡ remove_range ys' (j - i) m → zs ≡ slice_range xs i j
-  longer-out zs moved =
-      let run : List T = slice_range xs i (i + (j - i)) in
-      let before : take (j - i) ys' ≡ run =
-      ap (take (j - i)) go
-      ∙ take_at run (drop (j - i) ys) (j - i) (length-run xs ys i (j - i) run-within longer) in
-      let all : length ys' ≤ m =
-      omega (arith, ap length go, length-out xs ys i (j - i) run-within longer, count) in
-      let after : drop m ys' ≡ [] = drop_all m ys' all in
-      moved
-      ∙ ((λ t. before t ++ after t)
-      ∙ (append-nil run ∙ ap (λ (n : ℕ). slice_range xs i n) past-run))
-
--- In this module, `ys` is not longer than the range `i..j`. The lists become `xs'` and `ys'` when
--- the pairs are exchanged, and then the rest of the range moves to the end of `ys'`.
-module _ {T : Type 0} (xs ys xs' ys' : List T) (i j m : ℕ) (order : i ≤ j)
-    (within : j ≤ length xs) (shorter : length ys ≤ j - i) (count : m ≡ length ys)
-    (come : xs' ≡ replace_range xs i (i + m) (take m ys))
-    (go : ys' ≡ slice_range xs i (i + m) ++ drop m ys) where
-  short-within : i + m ≤ length xs
-  short-within = omega (arith, order, within, shorter, count)
-
-  abbrev short-new : List T
-  short-new = take i xs ++ ys
-
-  short-all : take m ys ≡ ys
-  short-all = take_all m ys (omega (arith, count))
-
-  short-start : length short-new ≡ i + m
-  short-start =
-      ap (λ (l : List T). length (take i xs ++ l)) (sym short-all)
-      ∙ length-head xs ys i m short-within (omega (arith, count))
-
-  short-now : xs' ≡ short-new ++ drop (i + m) xs
-  short-now = come ∙ ap (λ (l : List T). (take i xs ++ l) ++ drop (i + m) xs) short-all
-
-  short-from : drop (i + m) xs' ≡ drop (i + m) xs
-  short-from = ap (drop (i + m)) short-now ∙ drop_at short-new (drop (i + m) xs) (i + m) short-start
-
-  pub shorter-out : (zs : List T) → zs ≡ remove_range xs' (i + m) j
-      → zs ≡ replace_range xs i j ys
-  shorter-out zs moved =
-      let more : i + m + (j - (i + m)) ≡ j = omega (arith, order, shorter, count) in
-      let before : take (i + m) xs' ≡ short-new =
-      ap (take (i + m)) short-now ∙ take_at short-new (drop (i + m) xs) (i + m) short-start in
-      let past : (l : List T) → drop (j - (i + m)) (drop (i + m) l) ≡ drop j l =
-      λ l. drop-drop (j - (i + m)) (i + m) l ∙ ap (λ (n : ℕ). drop n l) more in
-      let after : drop j xs' ≡ drop j xs =
-      sym (past xs') ∙ (ap (drop (j - (i + m))) short-from ∙ past xs) in
+  swapped-in zs moved =
+      let before : take (i + m) xs₂ ≡ new =
+      ap (take (i + m)) now ∙ take_at new (drop (i + k) xs) (i + m) new-size in
+      let o : ℕ = j - (i + k) in
+      let later : i + m + o ≡ j + n = omega (arith, order, narrow, parts) in
+      let sooner : i + k + o ≡ j = omega (arith, order, narrow) in
+      let after : drop (j + n) xs₂ ≡ drop j xs =
+      sym (drop-drop o (i + m) xs₂ ∙ ap (λ (q : ℕ). drop q xs₂) later)
+      ∙ (ap (drop o) past-new ∙ (drop-drop o (i + k) xs ∙ ap (λ (q : ℕ). drop q xs) sooner)) in
       moved ∙ (λ t. before t ++ after t)
 
-  pub shorter-in : (zs : List T)
-      → zs ≡ replace_range ys' m m (slice_range xs' (i + m) j) → zs ≡ slice_range xs i j
-  shorter-in zs moved =
-      let own : List T = slice_range xs i (i + m) in
-      let size : length own ≡ m = length-run xs ys i m short-within (omega (arith, count)) in
-      let none : drop m ys ≡ [] = drop_all m ys (omega (arith, count)) in
-      let same : ys' ≡ own = go ∙ (ap (λ (l : List T). own ++ l) none ∙ append-nil own) in
-      let first : take m ys' ≡ own = ap (take m) same ∙ take_all m own (omega (arith, size)) in
-      let last : drop m ys' ≡ [] = ap (drop m) same ∙ drop_all m own (omega (arith, size)) in
-      let more : slice_range xs' (i + m) j ≡ slice_range xs (i + m) j =
-      ap (take (j - (i + m))) short-from in
-      let sum : j - i ≡ length own + (j - (i + m)) = omega (arith, order, shorter, size, count) in
-      let parts : own ++ slice_range xs (i + m) j ≡ slice_range xs i j =
-      sym (ap (take (j - i)) (drop_split xs i (i + m) (omega arith))
-      ∙ (ap (λ (n : ℕ). take n (own ++ drop (i + m) xs)) sum
-      ∙ take-append-add own (drop (i + m) xs) (j - (i + m)))) in
+  pub swapped-out : (zs : List T)
+      → zs ≡ replace_range ys₂ k k (slice_range xs₂ (i + m) (j + n)) → zs ≡ slice_range xs i j
+  swapped-out zs moved =
+      let first : take k ys₂ ≡ run = ap (take k) gone ∙ take_all k run (omega (arith, run-size)) in
+      let last : drop k ys₂ ≡ [] = ap (drop k) gone ∙ drop_all k run (omega (arith, run-size)) in
+      let width : j + n - (i + m) ≡ j - (i + k) = omega (arith, parts) in
+      let more : slice_range xs₂ (i + m) (j + n) ≡ slice_range xs (i + k) j =
+      λ t. take (width t) (past-new t) in
+      let sum : j - i ≡ length run + (j - (i + k)) = omega (arith, order, narrow, run-size) in
+      let joined : run ++ slice_range xs (i + k) j ≡ slice_range xs i j =
+      sym (ap (take (j - i)) (drop_split xs i (i + k) (omega arith))
+      ∙ (ap (λ (q : ℕ). take q (run ++ drop (i + k) xs)) sum
+      ∙ take-append-add run (drop (i + k) xs) (j - (i + k)))) in
       moved
       ∙ ((λ t. (first t ++ more t) ++ last t)
-      ∙ (append-nil (own ++ slice_range xs (i + m) j) ∙ parts))
+      ∙ (append-nil (run ++ slice_range xs (i + k) j) ∙ joined))
 
 -- The following lemmas are about the cost of the list that takes part in the exchange, `u` after
--- `reserve`, and `s` after the exchange of the pairs.
+-- `reserve`, `s` after the exchange of the pairs, and `t` after the rest of `ys` has moved.
 
-same-test : (i j m : ℕ) → i ≤ j → m ≤ j - i → eqb (i + m) j ≡ eqb (j - i) m
-same-test i j m order few = elim (cases_lt m (j - i)) [
-  | inl less ↦ (let one : eqb (i + m) j ≡ false = grind (arith, nat_tests) in
-      let two : eqb (j - i) m ≡ false = grind (arith, nat_tests) in
-      one ∙ sym two)
-  | inr most ↦ (let one : eqb (i + m) j ≡ true = grind (arith, nat_tests) in
-      let two : eqb (j - i) m ≡ true = grind (arith, nat_tests) in
-      one ∙ sym two)
+-- At most one of the two calls that move the rest counts moves.
+moves-join : (i j k m n l : ℕ) → i ≤ j → n ≡ m - (j - i) → k ≡ m - n
+    → m - k + (if eqb k m then 0 else l - (i + k))
+    + (if eqb (i + m) (j + n) then 0 else l + n - (j + n))
+    ≡ m - (j - i) + (if eqb (j - i) m then 0 else l - j)
+moves-join i j k m n l order more pairs = elim (cases_lt m (j - i)) [
+  | inl shorter ↦ (let one : eqb k m ≡ true = grind (arith, nat_tests) in
+      let two : eqb (i + m) (j + n) ≡ false = grind (arith, nat_tests) in
+      let three : eqb (j - i) m ≡ false = grind (arith, nat_tests) in
+      omega (
+        arith,
+        ap (λ (b : Bool). if b then 0 else l - (i + k)) one,
+        ap (λ (b : Bool). if b then 0 else l + n - (j + n)) two,
+        ap (λ (b : Bool). if b then 0 else l - j) three,
+        more,
+        pairs,
+      ))
+  | inr most ↦ elim (cases_lt (j - i) m) [
+    | inl longer ↦ (let one : eqb k m ≡ false = grind (arith, nat_tests) in
+        let two : eqb (i + m) (j + n) ≡ true = grind (arith, nat_tests) in
+        let three : eqb (j - i) m ≡ false = grind (arith, nat_tests) in
+        omega (
+          arith,
+          ap (λ (b : Bool). if b then 0 else l - (i + k)) one,
+          ap (λ (b : Bool). if b then 0 else l + n - (j + n)) two,
+          ap (λ (b : Bool). if b then 0 else l - j) three,
+          more,
+          pairs,
+          order,
+        ))
+    | inr least ↦ (let one : eqb k m ≡ true = grind (arith, nat_tests) in
+        let two : eqb (i + m) (j + n) ≡ true = grind (arith, nat_tests) in
+        let three : eqb (j - i) m ≡ true = grind (arith, nat_tests) in
+        omega (
+          arith,
+          ap (λ (b : Bool). if b then 0 else l - (i + k)) one,
+          ap (λ (b : Bool). if b then 0 else l + n - (j + n)) two,
+          ap (λ (b : Bool). if b then 0 else l - j) three,
+          more,
+          pairs,
+        ))
+  ]
 ]
 
 nothing : (b : Bool) (n : ℕ) → n ≡ 0 → (if b then 0 else n) ≡ 0
@@ -201,60 +230,49 @@ pub paid-if : (b : Bool) (n : ℕ) (c : Cost)
 paid-if true n c = (refl, refl)
 paid-if false n c = (refl, refl)
 
-module _ {T A : Type 0} where
-  pub cost-longer-in : (v u s w : ListView T A) (k m j n : ℕ) → m ≡ n
-      → length s.items ≡ length v.items → u.cost ≡ cost_after_resize v u.capacity
-      → s.cost ≡ u.cost → w.capacity ≡ u.capacity
-      → w.cost ≡ add_moves (m - k + (if eqb k m then 0 else length s.items - j)) s.cost
-      → CostsMoves (n - k + (if eqb k n then 0 else length v.items - j)) v w
-  cost-longer-in v u s w k m j n count len paid kept same last =
-      let all : s.cost ≡ cost_after_resize v w.capacity =
-      kept ∙ (paid ∙ ap (λ (c : ℕ). cost_after_resize v c) (sym same)) in
-      last ∙ (λ t. add_moves (count t - k + (if eqb k (count t) then 0 else len t - j)) (all t))
+module _ {T A : Type 0} (v u s t w : ListView T A) (i j k m n : ℕ) (order : i ≤ j)
+    (paid : u.cost ≡ cost_after_resize v u.capacity) (kept : s.cost ≡ u.cost)
+    (same : w.capacity ≡ u.capacity) where
+  all : s.cost ≡ cost_after_resize v w.capacity
+  all = kept ∙ (paid ∙ ap (λ (c : ℕ). cost_after_resize v c) (sym same))
 
-  pub cost-longer-out : (x s y : ListView T A) (k m n : ℕ) → m ≡ n → k ≤ n
-      → length s.items ≡ n → s.cost ≡ x.cost → y.capacity ≡ x.capacity
-      → y.cost ≡ (if eqb k m then s.cost else add_moves (length s.items - m) s.cost)
-      → CostsMoves (k - n) x y
-  cost-longer-out x s y k m n count few len kept same last =
-      let none : length s.items - m ≡ 0 = omega (arith, len, count) in
-      let zero : 0 ≡ k - n = omega (arith, few) in
-      let all : s.cost ≡ cost_after_resize x y.capacity =
-      kept ∙ sym (cost_after_resize-same x y.capacity same) in
+  pub cost-in : length s.items ≡ length v.items → length t.items ≡ length v.items + n
+      → n ≡ m - (j - i) → k ≡ m - n
+      → t.cost ≡ add_moves (m - k + (if eqb k m then 0 else length s.items - (i + k))) s.cost
+      → w.cost ≡ (if eqb (i + m) (j + n) then t.cost else add_moves
+      (length t.items - (j + n)) t.cost)
+      → CostsMoves (m - (j - i) + (if eqb (j - i) m then 0 else length v.items - j)) v w
+  cost-in len grown more pairs first last =
+      let a : ℕ = m - k + (if eqb k m then 0 else length v.items - (i + k)) in
+      let b : ℕ = if eqb (i + m) (j + n) then 0 else length v.items + n - (j + n) in
+      let before : t.cost ≡ add_moves a s.cost =
+      first ∙ (λ q. add_moves (m - k + (if eqb k m then 0 else len q - (i + k))) s.cost) in
+      let after : w.cost ≡ add_moves b t.cost =
       last
+      ∙ (moved-if (eqb (i + m) (j + n)) (length t.items - (j + n)) t.cost
+      ∙ (λ q. add_moves (if eqb (i + m) (j + n) then 0 else grown q - (j + n)) t.cost)) in
+      after
+      ∙ (ap (λ (c : Cost). add_moves b c) before
+      ∙ (moving-more b a s.cost
+      ∙ (λ q. add_moves (moves-join i j k m n (length v.items) order more pairs q) (all q))))
+
+  pub cost-out : length s.items ≡ m → length t.items ≡ k → k + n ≡ m
+      → t.cost ≡ (if eqb k m then s.cost else add_moves (length s.items - m) s.cost)
+      → w.cost ≡ add_moves (j + n - (i + m)
+      + (if eqb (i + m) (j + n) then 0 else length t.items - k)) t.cost
+      → n ≡ m - (j - i) → CostsMoves (j - i - m) v w
+  cost-out len left parts first last more =
+      let none : length s.items - m ≡ 0 = omega (arith, len) in
+      let before : t.cost ≡ s.cost =
+      first
       ∙ (ap (λ (q : ℕ). if eqb k m then s.cost else add_moves q s.cost) none
-      ∙ (moving-zero (eqb k m) s.cost
-      ∙ (sym (moving-none s.cost) ∙ (λ t. add_moves (zero t) (all t)))))
-
-  pub cost-shorter-out : (v s w : ListView T A) (i j m n : ℕ) → m ≡ n → i ≤ j → n ≤ j - i
-      → length s.items ≡ length v.items → s.cost ≡ v.cost → w.capacity ≡ v.capacity
-      → w.cost ≡ (if eqb (i + m) j then s.cost else add_moves (length s.items - j) s.cost)
-      → CostsMoves (n - (j - i) + (if eqb (j - i) n then 0 else length v.items - j)) v w
-  cost-shorter-out v s w i j m n count order few len kept same last =
-      let test : eqb (i + m) j ≡ eqb (j - i) n =
-      ap (λ (q : ℕ). eqb (i + q) j) count ∙ same-test i j n order few in
-      let tail : ℕ = if eqb (j - i) n then 0 else length v.items - j in
-      let sum : tail ≡ n - (j - i) + tail = omega (arith, few) in
-      let all : v.cost ≡ cost_after_resize v w.capacity =
-      sym (cost_after_resize-same v w.capacity same) in
-      last
-      ∙ ((λ t. if test t then kept t else add_moves (len t - j) (kept t))
-      ∙ (moved-if (eqb (j - i) n) (length v.items - j) v.cost
-      ∙ (λ t. add_moves (sum t) (all t))))
-
-  pub cost-shorter-in : (x u s y : ListView T A) (i j m n : ℕ) → m ≡ n
-      → length s.items ≡ n → u.cost ≡ cost_after_resize x u.capacity
-      → s.cost ≡ u.cost → y.capacity ≡ u.capacity
-      → y.cost ≡ add_moves (j - (i + m) + (if eqb (i + m) j then 0 else length s.items - m)) s.cost
-      → CostsMoves (j - i - n) x y
-  cost-shorter-in x u s y i j m n count len paid kept same last =
-      let none : (if eqb (i + m) j then 0 else length s.items - m) ≡ 0 =
-      nothing (eqb (i + m) j) (length s.items - m) (omega (arith, len, count)) in
-      let moves : j - (i + m) + (if eqb (i + m) j then 0 else length s.items - m) ≡ j - i - n =
-      omega (arith, none, count) in
-      let all : s.cost ≡ cost_after_resize x y.capacity =
-      kept ∙ (paid ∙ ap (λ (c : ℕ). cost_after_resize x c) (sym same)) in
-      last ∙ (λ t. add_moves (moves t) (all t))
+      ∙ moving-zero (eqb k m) s.cost) in
+      let zero : (if eqb (i + m) (j + n) then 0 else length t.items - k) ≡ 0 =
+      nothing (eqb (i + m) (j + n)) (length t.items - k) (omega (arith, left)) in
+      let moves : j + n - (i + m) + (if eqb (i + m) (j + n) then 0 else length t.items - k)
+      ≡ j - i - m =
+      omega (arith, zero, more, order) in
+      last ∙ (λ q. add_moves (moves q) ((before ∙ all) q))
 
 -- The call fails for the one list that has to grow. The other one needs no capacity that is too
 -- large.

@@ -61,118 +61,25 @@ impl<T, A: Allocator, G: Growth> ThinVec<T, A, G> {
         ensures preserved { PreservesList T.row self.old self.new }
         ensures other_preserved { PreservesList T.row other.old other.new }
     {
-        if end - start < other.len() {
-            self.swap_for_longer(start, end, other)
-        } else {
-            self.swap_for_shorter(start, end, other)
-        }
-    }
-
-    // Does what `swap_range` does, with a list that is not shorter than the range.
-    fn swap_for_longer<B: Allocator>(
-        &mut self,
-        start: usize,
-        end: usize,
-        other: &mut ThinVec<T, B, G>,
-    ) -> Result<(), ThinVecError>
-        requires start_le_end { start ≤ end }
-        requires in_bounds { end ≤ length self.old.items }
-        requires longer { end - start ≤ length other.old.items }
-
-        // On success.
-        ensures items { OnOk result (self.new.items
-            ≡ replace_range self.old.items start end other.old.items) }
-        ensures other_items { OnOk result (other.new.items
-            ≡ slice_range self.old.items start end) }
-        ensures capacity { OnOk result (capacity_after_reserve G.rule T.row self.old
-            (length other.old.items - (end - start)) ≡ Some self.new.capacity) }
-        ensures other_capacity { OnOk result (capacity_after_reserve G.rule T.row other.old
-            (end - start - length other.old.items) ≡ Some other.new.capacity) }
-        ensures cost { OnOk result (CostsMoves
-            (moves_swapping self.old start end (length other.old.items)) self.old self.new) }
-        ensures other_cost { OnOk result (CostsMoves
-            (end - start - length other.old.items) other.old other.new) }
-
-        // When it must succeed. In every other case it may fail.
-        ensures succeeds { HasRoomFor self.old (length other.old.items - (end - start))
-            → HasRoomFor other.old (end - start - length other.old.items) → IsOk result }
-
-        // On failure, which happens only without room: neither list changes.
-        ensures err { OnErr result (self.new ≡ self.old) }
-        ensures other_err { OnErr result (other.new ≡ other.old) }
-        ensures overflow { OverflowsIffEither
-            (capacity_after_reserve G.rule T.row self.old
-            (length other.old.items - (end - start)))
-            (capacity_after_reserve G.rule T.row other.old
-            (end - start - length other.old.items)) result }
-
-        // In every case.
-        ensures preserved { PreservesList T.row self.old self.new }
-        ensures other_preserved { PreservesList T.row other.old other.new }
-    {
+        prove!(start <= end);
+        prove!(end <= self.len());
         let range = end - start;
         let count = other.len();
+        let more = count.saturating_sub(range);
         // `reserve` is called without `?`, for the same reason as in `replace_range_from_copies`.
-        match self.reserve(count - range) {
+        match self.reserve(more) {
             Ok(()) => (),
             Err(cause) => return Err(cause),
         }
-        self.swap_run(start, range, other);
-        other.move_range_to(range, count, self, end);
-        Ok(())
-    }
-
-    // Does what `swap_range` does, with a list that is not longer than the range.
-    fn swap_for_shorter<B: Allocator>(
-        &mut self,
-        start: usize,
-        end: usize,
-        other: &mut ThinVec<T, B, G>,
-    ) -> Result<(), ThinVecError>
-        requires start_le_end { start ≤ end }
-        requires in_bounds { end ≤ length self.old.items }
-        requires shorter { length other.old.items ≤ end - start }
-
-        // On success.
-        ensures items { OnOk result (self.new.items
-            ≡ replace_range self.old.items start end other.old.items) }
-        ensures other_items { OnOk result (other.new.items
-            ≡ slice_range self.old.items start end) }
-        ensures capacity { OnOk result (capacity_after_reserve G.rule T.row self.old
-            (length other.old.items - (end - start)) ≡ Some self.new.capacity) }
-        ensures other_capacity { OnOk result (capacity_after_reserve G.rule T.row other.old
-            (end - start - length other.old.items) ≡ Some other.new.capacity) }
-        ensures cost { OnOk result (CostsMoves
-            (moves_swapping self.old start end (length other.old.items)) self.old self.new) }
-        ensures other_cost { OnOk result (CostsMoves
-            (end - start - length other.old.items) other.old other.new) }
-
-        // When it must succeed. In every other case it may fail.
-        ensures succeeds { HasRoomFor self.old (length other.old.items - (end - start))
-            → HasRoomFor other.old (end - start - length other.old.items) → IsOk result }
-
-        // On failure, which happens only without room: neither list changes.
-        ensures err { OnErr result (self.new ≡ self.old) }
-        ensures other_err { OnErr result (other.new ≡ other.old) }
-        ensures overflow { OverflowsIffEither
-            (capacity_after_reserve G.rule T.row self.old
-            (length other.old.items - (end - start)))
-            (capacity_after_reserve G.rule T.row other.old
-            (end - start - length other.old.items)) result }
-
-        // In every case.
-        ensures preserved { PreservesList T.row self.old self.new }
-        ensures other_preserved { PreservesList T.row other.old other.new }
-    {
-        let count = other.len();
-        // Only the proof needs this call: its contract says that the list `IsBounded`.
-        let _len = self.len();
-        match other.reserve(end - start - count) {
+        match other.reserve(range.saturating_sub(count)) {
             Ok(()) => (),
             Err(cause) => return Err(cause),
         }
-        self.swap_run(start, count, other);
-        self.move_range_to(start + count, end, other, count);
+        let pairs = count - more;
+        self.swap_run(start, pairs, other);
+        // What is left of the longer run moves. In the shorter one, no item is left.
+        other.move_range_to(pairs, count, self, start + pairs);
+        self.move_range_to(start + count, end + more, other, pairs);
         Ok(())
     }
 
