@@ -102,6 +102,7 @@ impl<T, A: Allocator, G: Growth> ThinVec<T, A, G> {
         ensures preserved { PreservesList T.row self.old self.new }
         ensures other_bounds { IsBounded T.row other.old × IsBounded T.row other.new }
     {
+        prove!(other.len() <= self.capacity() - self.len());
         self.append_from(other, 0);
     }
 

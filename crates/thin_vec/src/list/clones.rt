@@ -73,7 +73,8 @@ impl<T: Clone, A: Allocator, G: Growth> ThinVec<T, A, G> {
     /// failure, `alloc` and all clones are dropped.
     pub fn clone(&self, alloc: A) -> Result<ThinVec<T, A, G>, ThinVecError>
         // On success: a clone of each item, in order (`items`), in a list that has the allocator
-        // `alloc` and no spare capacity. One request, unless it is empty, and one move for each.
+        // `alloc` and no spare capacity. This costs one move for each item, and one block, unless
+        // there is none.
         ensures items { IfOk result (λ list. AllZip T.is_clone self.now.items list.items) }
         ensures capacity { IfOk result (λ list. list.capacity ≡ length self.now.items) }
         ensures cost { IfOk result (λ list. list.cost ≡ add_moves (length self.now.items)
@@ -153,6 +154,7 @@ impl<T: Clone, A: Allocator, G: Growth> ThinVec<T, A, G> {
             → self.new.items ≡ self.old.items ++ items.now) }
     {
         let len = self.len();
+        prove!(items.len() <= self.capacity() - len);
         if self.push_clones_reserved(items) < items.len() {
             self.truncate(len);
             return Err(ThinVecError::OutOfMemory);

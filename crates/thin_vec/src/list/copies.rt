@@ -84,6 +84,7 @@ impl<T: Copy, A: Allocator, G: Growth> ThinVec<T, A, G> {
         ensures capacity { self.new.capacity ≡ self.old.capacity }
         ensures preserved { PreservesList T.row self.old self.new }
     {
+        prove!(items.len() <= self.capacity() - self.len());
         let len = self.block.len();
         if items.is_empty() {
             return;

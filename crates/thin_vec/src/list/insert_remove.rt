@@ -71,6 +71,7 @@ impl<T, A: Allocator, G: Growth> ThinVec<T, A, G> {
         ensures preserved { PreservesList T.row self.old self.new }
     {
         prove!(index <= self.len());
+        prove!(self.len() < self.capacity());
         let len = self.block.len();
         self.block.move_run(index, index + 1, len - index);
         self.block.put_and_set_len(index, value, len + 1);

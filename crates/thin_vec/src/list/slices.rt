@@ -216,6 +216,8 @@ impl<T, A: Allocator, G: Growth> ThinVec<T, A, G> {
         ensures bounds_before { IsBounded T.row self.old }
         ensures by_index { SwappedAt self.old.items self.new.items i j }
     {
+        prove!(i < self.len());
+        prove!(j < self.len());
         self.as_mut_slice().swap(i, j);
     }
 
@@ -242,6 +244,7 @@ impl<T, A: Allocator, G: Growth> ThinVec<T, A, G> {
         ensures bounds_before { IsBounded T.row self.old }
         ensures by_index { RotatedLeft self.old.items self.new.items (length self.old.items) mid }
     {
+        prove!(mid <= self.len());
         self.as_mut_slice().rotate_left(mid);
     }
 
@@ -256,6 +259,7 @@ impl<T, A: Allocator, G: Growth> ThinVec<T, A, G> {
         ensures bounds_before { IsBounded T.row self.old }
         ensures by_index { RotatedRight self.old.items self.new.items (length self.old.items) k }
     {
+        prove!(k <= self.len());
         self.as_mut_slice().rotate_right(k);
     }
 
@@ -303,6 +307,7 @@ impl<T, A: Allocator, G: Growth> ThinVec<T, A, G> {
         ensures changes { self.new ≡ record self.old { items = self.new.items } }
         ensures bounds_before { IsBounded T.row self.old }
     {
+        prove!(self.len() == src.len());
         self.as_mut_slice().copy_from_slice(src);
     }
 
