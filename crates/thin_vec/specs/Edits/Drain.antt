@@ -18,9 +18,9 @@ module _ {T A G H : Type 0} {g : Ghosts G} {h : IntoInnerGhosts H (OpenView T A)
   drain_block d = h.inner d.holder
 
   -- `list_after_drain d` is the list that the `Drain` `d` leaves when it is dropped: its items are
-  -- those before and after the range. Unless the range has no slots, the drop moves each item after
-  -- it. The contract of `drain` says what this list is, and calls to `next` and `next_back` do not
-  -- change it. The prover unfolds this definition only on request.
+  -- those before and after the range. Unless the range has no slots, each item after it has been
+  -- moved once by then. The contract of `drain` says what this list is, and calls to `next` and
+  -- `next_back` do not change it. The prover unfolds this definition only on request.
   unfoldable pub list_after_drain : Drain T A G H g h → ListView T A
   list_after_drain d = record {
     items = (drain_block d).front ++ (drain_block d).tail;
@@ -75,13 +75,13 @@ module _ {T A G H : Type 0} {g : Ghosts G} {h : IntoInnerGhosts H (OpenView T A)
       → DrainKeeps first later
 
   -- `DrainYieldsInOrder d` states that calls to `next` on any `Drain` of the type of `d` yield the
-  -- remaining items of the range in order. (Apart from its type, `d` does not matter.) This follows
-  -- from `DrainSteps`.
+  -- remaining items of the range in order. (Only the type of `d` matters.) This follows from
+  -- `DrainSteps`.
   abbrev pub DrainYieldsInOrder : Drain T A G H g h → Type 0
   DrainYieldsInOrder d = YieldsInOrder DrainSteps drain_rest
 
   -- `DrainYieldsInReverse d` states that calls to `next_back` on any `Drain` of the type of `d`
-  -- yield the remaining items of the range in reverse order. (Apart from its type, `d` does not
-  -- matter.) This follows from `DrainStepsBack`.
+  -- yield the remaining items of the range in reverse order. (Only the type of `d` matters.) This
+  -- follows from `DrainStepsBack`.
   abbrev pub DrainYieldsInReverse : Drain T A G H g h → Type 0
   DrainYieldsInReverse d = YieldsInReverse DrainStepsBack drain_rest

@@ -28,7 +28,7 @@ module _ {T F : Type 0} (R : F → T → Bool → F → T → Type 0) where
       × (ys : List T) × (zs : List T) × ExtractsInTurn u xs ys zs g
       × (yielded ≡ cond b (y ∷ ys) ys) × (kept ≡ cond b zs (y ∷ zs))
 
--- `R` is as above.
+-- `R` says what a call of the closure does, as for `ExtractsInTurn`.
 module _ {T F A : Type 0} (R : F → T → Bool → F → T → Type 0) where
   -- `ExtractsOne old item new` describes a call to `next` that returned `item`. The values `old`
   -- and `new` are the block and the closure of the `ExtractIf` before and after the call.

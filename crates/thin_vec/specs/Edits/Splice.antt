@@ -74,7 +74,7 @@ module _ {T A : Type 0} where
   -- `IsSpliceCause rule R w tail limit error` states why a call to `finish` failed with `error`.
   -- The growth rule is `rule`, the item type is `R`, the list after the call is `w`, and the items
   -- after the range are `tail`. The rest of the iterator may yield at most `limit` items. For each
-  -- error, the premises of exactly one field hold.
+  -- error that `finish` returns, the premises of exactly one field hold.
   pub record IsSpliceCause {S : Type 0} (rule : GrowthRule) (R : RattleType) (w : ListView T A)
       (tail : List T)
       (limit : Count) (error : SpliceRefused T S A) : Type 0 where

@@ -39,9 +39,9 @@ capacity_after_pushes rule R c (suc n) =
     option_and_then (λ d. grown_capacity rule (type_size R) (type_align R) d (suc n))
     (capacity_after_pushes rule R c n)
 
--- `cost_after_pushes rule R c n cost` is the recorded cost of this list, if it was `cost` before
--- the pushes, without the moves of the pushed items. A push onto a full list makes one request for
--- memory, which copies all items.
+-- `cost_after_pushes rule R c n cost` is the recorded cost of a list that had the capacity `c`,
+-- after pushes as for `capacity_after_pushes`, if it was `cost` before. The moves of the pushed
+-- items are left out. A push onto a full list makes one request for memory, which copies all items.
 unfoldable pub cost_after_pushes : GrowthRule → RattleType → ℕ → ℕ → Cost → Cost
 cost_after_pushes rule R c zero cost = cost
 cost_after_pushes rule R c (suc n) cost =

@@ -37,8 +37,7 @@ impl<T: Clone, A: Allocator, G: Growth> ThinVec<T, A, G> {
         ensures capacity { OnOk result (capacity_after_reserve G.rule T.row self.old
             (length items.now - (end - start)) ≡ Some self.new.capacity) }
         // Each new item is moved once, and so is each item after the range, unless as many items
-        // come as go. The list in which the clones are made is in no counter. It takes one request
-        // for memory, unless `items` is empty, and one more move for each clone.
+        // come as go. The list in which the clones are made is in no counter.
         ensures cost { OnOk result (CostsMoves
             (moves_replacing self.old start end (length items.now)) self.old self.new) }
 

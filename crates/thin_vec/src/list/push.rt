@@ -16,9 +16,9 @@ impl<T, A: Allocator, G: Growth> ThinVec<T, A, G> {
     /// Appends `value`. If the list is full and cannot grow, the call fails, changes nothing, and
     /// returns `value` in the error.
     ///
-    /// This takes amortized constant time, because a full list at least doubles its capacity. The
-    /// clause `preserved` says so: a list whose growths have copied fewer items than its capacity,
-    /// or none (`IsCheap`), stays such a list.
+    /// A full list at least doubles its capacity, so on average, a push copies a constant number of
+    /// old items. The clause `preserved` says so: a list whose growths have copied fewer items than
+    /// its capacity, or none (`IsCheap`), stays such a list.
     ///
     /// # Errors
     ///
