@@ -1,6 +1,6 @@
 -- Clones of the entries of a row are the entries of a clone of the row. If clones equal their
 -- values, clones of rows and tables equal these.
-use Rattle.std.proofs.Common.{◌≡◌, ℕ, Bool, true, false, ◌&&◌, T, List, [], ◌∷◌, sym, ap, subst, ◌∙◌, nat_cmp, is_lt}
+use Rattle.std.proofs.Common.{◌≡◌, ℕ, T, List, [], ◌∷◌, sym, ap, subst, ◌∙◌, nat_cmp, is_lt}
 use Rattle.std.proofs.lemmas.List.Elements.{same_from_all_zip}
 use Rattle.std.specs.FinMap.{entries, entries-from_sorted, from_sorted, same_entries_map}
 use Rattle.std.specs.FinMap.Entries.{below_all}
@@ -8,11 +8,7 @@ use Rattle.std.specs.List.{AllZip}
 use Rattle.thin_vec.specs.List.Clones.{ClonesEqual}
 use Rattle.thin_rows.specs.Entries.{IsSortedByColumn}
 use Rattle.thin_rows.specs.Table.{Columns, IsClonedRow, IsClonedTable, Table}
-use Rattle.thin_rows.proofs.EntriesLemmas.{both_hold}
-
-hold_both : (a b : Bool) → T a → T b → T (a && b)
-hold_both true b first second = second
-hold_both false b first second = first
+use Rattle.thin_rows.proofs.EntriesLemmas.{both_hold, hold_both}
 
 module _ {V : Type 0} (clones : V → V → Type 0) where
   -- `AreClones es fs` states that the entries `fs` are clones of the entries `es`.

@@ -15,6 +15,10 @@ pub both_hold : (a b : Bool) → T (a && b) → T a × T b
 both_hold true b h = (tt, h)
 both_hold false b h = absurd h
 
+pub hold_both : (a b : Bool) → T a → T b → T (a && b)
+hold_both true b first second = second
+hold_both false b first second = first
+
 is_less : (c k : ℕ) → c < k → nat_cmp c k ≡ Less
 is_less c k less = grind (arith, nat_tests)
 

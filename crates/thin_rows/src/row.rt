@@ -181,6 +181,19 @@ impl<V: Eq, A: Allocator> Eq for Row<V, A> {
 }
 
 impl<V: Drop, A: Allocator> Row<V, A> {
+    ghost use Rattle.std.specs.Fn.{CalledAt};
+    ghost use Rattle.std.specs.List.Retain.{IsFiltered};
+
+    // Keeps the entries for which `keep` returns true, and drops the values of the others.
+    pub(crate) fn retain<F: FnMut(&(usize, V)) -> bool>(&mut self, keep: F)
+        requires callable { F.IsAlwaysCallable keep }
+        ensures filtered { IsFiltered (CalledAt F.FnMut) keep
+            (map.entries self.old) (map.entries self.new) }
+    {
+        self.entries.retain(keep);
+        free_if_empty(&mut self.entries);
+    }
+
     // Removes all entries, and drops their values.
     pub(crate) fn clear(&mut self)
         ensures entries { self.new ≡ map.empty }

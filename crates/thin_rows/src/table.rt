@@ -1,5 +1,5 @@
 //! Defines the type `Rows`, which is a sparse table. In contracts, a table is the list of its rows.
-ghost use Rattle.std.specs.Prelude.{◌≡◌, ◌↔◌, [], ◌+◌, ◌-◌, ◌^◌, ◌<◌, AllPairs, IfErr, IfOk, IsOk, IsSome, IsTrue, OnErr, OnOk, length, map, min, replicate, sum};
+ghost use Rattle.std.specs.Prelude.{◌≡◌, ◌↔◌, [], ◌+◌, ◌-◌, ◌^◌, ◌<◌, AllPairs, IfErr, IfOk, IsOk, IsSome, IsTrue, OnErr, OnOk, length, map, min, replicate, slice_set, sum};
 ghost use Rattle.std.specs.FinMap as columns;
 ghost use Rattle.std.specs.List.Sorted.{IsStrictlyIncreasing};
 ghost use Rattle.std.specs.Option.{option_copied};
@@ -109,6 +109,7 @@ impl<V, A: Allocator> Rows<V, A> {
         requires in_bounds { row < length self.now }
         ensures value { option_copied result ≡ value_at self.now row column }
     {
+        prove!(row < self.rows());
         self.rows[row].get(column)
     }
 
@@ -119,6 +120,7 @@ impl<V, A: Allocator> Rows<V, A> {
             (LendsValue V.row A.row A.Allocator self.entry row column result) }
         ensures value { option_copied_mut result ≡ value_at self.old row column }
     {
+        prove!(row < self.rows());
         self.rows[row].get_mut(column)
     }
 
@@ -146,6 +148,7 @@ impl<V, A: Allocator> Rows<V, A> {
         ensures err { OnErr result (self.new ≡ self.old) }
         ensures value_returned { IfErr result (λ refused. refused.value ≡ value) }
     {
+        prove!(row < self.rows());
         self.rows[row].set(column, value)
     }
 
@@ -156,6 +159,7 @@ impl<V, A: Allocator> Rows<V, A> {
         ensures value { result ≡ value_at self.old row column }
         ensures table { self.new ≡ without_value self.old row column }
     {
+        prove!(row < self.rows());
         self.rows[row].remove(column)
     }
 
@@ -166,6 +170,7 @@ impl<V, A: Allocator> Rows<V, A> {
         ensures value { result.now ≡ columns.entries (row_at self.now row) }
         ensures sorted { IsStrictlyIncreasing (map (λ entry. entry.0) result.now) }
     {
+        prove!(row < self.rows());
         self.rows[row].entries()
     }
 
@@ -174,6 +179,7 @@ impl<V, A: Allocator> Rows<V, A> {
         requires in_bounds { row < length self.now }
         ensures value { IsTrue result ↔ (0 < columns.len (row_at self.now row)) }
     {
+        prove!(row < self.rows());
         self.rows[row].owns_block()
     }
 }
@@ -260,12 +266,30 @@ impl<'a, V, A: Allocator> IntoIterator for &'a Rows<V, A> {
 }
 
 impl<V: Drop, A: Allocator> Rows<V, A> {
+    ghost use Rattle.std.specs.Fn.{CalledAt};
+    ghost use Rattle.std.specs.List.Retain.{IsFiltered};
+
+    /// Keeps the entries of a row for which `keep` returns true, and drops the values of the other
+    /// entries. An entry is a pair of a column and a value. Calls `keep` once for each entry of the
+    /// row, in the order of the columns. It has to be possible to call it with every such pair. The
+    /// call requests no memory; this is tested, not proved.
+    pub fn retain_row<F: FnMut(&(usize, V)) -> bool>(&mut self, row: usize, keep: F)
+        requires in_bounds { row < length self.old }
+        requires callable { F.IsAlwaysCallable keep }
+        ensures filtered { IsFiltered (CalledAt F.FnMut) keep
+            (columns.entries (row_at self.old row)) (columns.entries (row_at self.new row)) }
+        ensures changes { self.new ≡ slice_set self.old row (row_at self.new row) }
+    {
+        self.rows[row].retain(keep);
+    }
+
     /// Removes all entries of a row, and drops their values. The call requests no memory; this is
     /// tested, not proved.
     pub fn clear_row(&mut self, row: usize)
         requires in_bounds { row < length self.old }
         ensures table { self.new ≡ with_empty_row self.old row }
     {
+        prove!(row < self.rows());
         self.rows[row].clear();
     }
 }

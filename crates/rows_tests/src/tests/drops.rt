@@ -61,6 +61,24 @@ fn assert_drops_by_clear_row(
     }
 }
 
+// Keeps the entries of the even columns of each row, and then none.
+fn assert_drops_by_retain_row(
+    rt: &impl Abort,
+    table: &mut Rows<Counted<'static>>,
+    ledger: &'static Ledger,
+    (rows, count): (usize, usize),
+) {
+    for row in 0..rows {
+        assert_row(rt, table, row);
+        table.retain_row(row, |entry| entry.0 % 2 == 0);
+        check!(rt; same(table.row(row).len(), count.div_ceil(2)));
+        assert_live(rt, ledger, table);
+        table.retain_row(row, |_entry| false);
+        check!(rt; same(table.owns_block(row), false));
+        assert_live(rt, ledger, table);
+    }
+}
+
 // Sets, removes and drops the values of a table whose rows have `count` entries each. Asserts after
 // each call how many values are alive.
 fn assert_drops(rt: &impl Abort, alloc: Global, rows: usize, count: usize) {
@@ -71,6 +89,8 @@ fn assert_drops(rt: &impl Abort, alloc: Global, rows: usize, count: usize) {
     assert_drops_by_remove(rt, &mut table, ledger, (rows, count));
     set_counted(rt, &mut table, ledger, count);
     assert_drops_by_clear_row(rt, &mut table, ledger, rows);
+    set_counted(rt, &mut table, ledger, count);
+    assert_drops_by_retain_row(rt, &mut table, ledger, (rows, count));
     set_counted(rt, &mut table, ledger, count);
     drop(table);
     check!(rt; same(ledger.live.get(), 0));

@@ -164,6 +164,8 @@ fn calls_of_a_table_take_no_memory(rt: HostRuntime) {
     check!(rt; same((table.len(), table.row(0).len(), table.is_empty()), (3, 3, false)));
     check!(rt; same((table.owns_block(0), table.owns_block(1)), (true, false)));
     check!(rt; same((entries(&table), table == table), (3, true)));
+    table.retain_row(0, |entry| entry.0 > 1);
+    check!(rt; same_items(table.row(0), &[(2, 7), (3, 8)]));
     table.clear_row(0);
     drop(table);
     check!(rt; same((lender.requests(), lender.blocks()), (0, 0)));
