@@ -5,4 +5,4 @@ mod fills;
 mod in_place;
 mod no_memory;
 mod over_global;
-mod refusing;
+mod refusals;

@@ -2,7 +2,7 @@
 //! test may stop a program, so a check returns what is wrong, and the test asserts that nothing is.
 use crate::ledger::{Counted, Ledger};
 use crate::numbered::{Numbered, block_bytes};
-use crate::refusing::Refusing;
+use refusing::Refusing;
 use std::alloc::{AllocError, Allocator, Global};
 use std::mem;
 use thin_vec::{Growth, ThinVec, ThinVecError};

@@ -2,7 +2,7 @@
 //! returns what is wrong, and the test stops with it by the macro `check!`.
 ghost use Rattle.std.specs.Prelude.{◌≡◌, IfOk, length};
 
-use crate::refusing::Refusing;
+use refusing::Refusing;
 use std::alloc::{Allocator, Global};
 use thin_vec::{Growth, ThinVec};
 

@@ -1,9 +1,9 @@
-//! Provides tools for the tests of several crates. The allocator `Refusing` refuses one request,
-//! which the test chooses. A `Ledger` has such an allocator, and counts items, clones and calls.
-//! Items of the types `Numbered` are made from numbers, and those of the type `Counted` are
-//! counted. `Claims` is an iterator whose size hint may be wrong. `Threefold` is a growth rule that
-//! only tests use. The trait `Ruled` computes the capacities that tests expect. A `Case` is a call
-//! of a sweep on a list. Checks such as `same` and `holds` return what is wrong.
+//! Provides tools for the tests of several crates, and the allocator of the crate `refusing`. A
+//! `Ledger` has such an allocator, and counts items, clones and calls. Items of the types
+//! `Numbered` are made from numbers, and those of the type `Counted` are counted. `Claims` is an
+//! iterator whose size hint may be wrong. `Threefold` is a growth rule that only tests use. The
+//! trait `Ruled` computes the capacities that tests expect. A `Case` is a call of a sweep on a
+//! list. Checks such as `same` and `holds` return what is wrong.
 #![tactic(auto)]
 
 mod case;
@@ -13,7 +13,6 @@ mod ledger;
 mod lists;
 mod multiples;
 mod numbered;
-mod refusing;
 mod ruled;
 mod texts;
 

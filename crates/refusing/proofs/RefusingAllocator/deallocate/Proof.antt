@@ -40,14 +40,14 @@ use denote.RawPtr.{Ptr, block_ptr, null_ptr, ptr_val, rawptr_vals, rawptr_Tells}
 use denote.Builtin.{usize, RawPtr, RefOf}
 use denote.Triple.Call.{calls_at}
 use Rattle.std.proofs.alloc.Calls.{Al, α, seen, token, gives_key, Gives, at_gives, Gives-goes, Gives-Gives}
-use Rattle.thin_testing.proofs.Counting.{Returned, at_returned, Returned-goes, Returned-gives}
-use Rattle.thin_testing.proofs.refusing.returned.Symbol as c_sym
-use Rattle.thin_testing.proofs.refusing.returned.Met as c_met
-use Rattle.thin_testing.specs.contracts.refusing.Refusing as wrapper
-use Rattle.thin_testing.specs.contracts.refusing.RefusingAllocator.deallocate as F
-use Rattle.thin_testing.specs.contracts.refusing.RefusingAllocator.deallocate.Key as key
-use Rattle.thin_testing.proofs.refusing.RefusingAllocator.deallocate.Statement as stated
-use Rattle.thin_testing.proofs.refusing.RefusingAllocator.deallocate.Code as code
+use Rattle.refusing.proofs.Counting.{Returned, at_returned, Returned-goes, Returned-gives}
+use Rattle.refusing.proofs.returned.Symbol as c_sym
+use Rattle.refusing.proofs.returned.Met as c_met
+use Rattle.refusing.specs.contracts.Refusing as wrapper
+use Rattle.refusing.specs.contracts.RefusingAllocator.deallocate as F
+use Rattle.refusing.specs.contracts.RefusingAllocator.deallocate.Key as key
+use Rattle.refusing.proofs.RefusingAllocator.deallocate.Statement as stated
+use Rattle.refusing.proofs.RefusingAllocator.deallocate.Code as code
 
 module _ (Z : Al) where
   abbrev args : Args
@@ -185,5 +185,5 @@ deallocate_spec 𝓤 𝓛 𝓜 𝓡 wired Y L g d d' met _ =
     (λ κs. ((λ r vs s. s.0), (rawptr_Tells, (uint_Tells w64, (uint_Tells w64, tt)))))
     (λ κs qs bounds a τ are. walk Z 𝓛 𝓜.mem 𝓡.returns 𝓣 (met.deallocate d')
     (cited 𝓤 𝓛.H _ 𝓜 𝓡 𝓡.env c_sym.name (𝓡.env c_sym.name) refl
-    (c_met.met 𝓤 𝓛 𝓜 𝓡 (code.calls-thin_testing::refusing::returned 𝓡.env wired))) κs.0 κs.1.0 qs.0 qs.1.0
+    (c_met.met 𝓤 𝓛 𝓜 𝓡 (code.calls-refusing::returned 𝓡.env wired))) κs.0 κs.1.0 qs.0 qs.1.0
     bounds.0 a.0 a.1.1.0 a.1.1.1.0 τ are.1.1.0.1 are.1.1.1.0.1 a.1.0)))

@@ -16,9 +16,9 @@ use denote.Steps.{nothing, only}
 use denote.Triple.Statement.{Contract}
 use denote.Triple.Spec.{triple_of}
 use Rattle.std.proofs.alloc.Calls.{Answer}
-use Rattle.thin_testing.proofs.Asks.{Row}
-use Rattle.thin_testing.specs.contracts.refusing.granted as GR
-use Rattle.thin_testing.specs.contracts.refusing.returned as RE
+use Rattle.refusing.proofs.Asks.{Row}
+use Rattle.refusing.specs.contracts.granted as GR
+use Rattle.refusing.specs.contracts.returned as RE
 
 module _ {M : Type 1} {𝓤 : Ura M} (𝓛 : Logic 𝓤) (at_mem : Memory → SProp 𝓤)
     (run : Routine → Fun 𝓤) where

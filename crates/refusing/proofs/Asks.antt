@@ -16,8 +16,8 @@ use denote.Builtin.{bool}
 use denote.Steps.{nothing, only}
 use denote.Triple.Statement.{Contract}
 use denote.Triple.Spec.{triple_of}
-use Rattle.thin_testing.specs.contracts.refusing.Counts as CT
-use Rattle.thin_testing.specs.contracts.refusing.refuses as RF
+use Rattle.refusing.specs.contracts.Counts as CT
+use Rattle.refusing.specs.contracts.refuses as RF
 
 -- `Row` is the type `Counts`.
 abbrev pub Row : RattleType

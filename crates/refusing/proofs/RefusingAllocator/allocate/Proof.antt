@@ -39,18 +39,18 @@ use denote.RawPtr.{block_ptr}
 use denote.Builtin.{usize, RefOf}
 use denote.Triple.Call.{calls_at}
 use Rattle.std.proofs.alloc.Calls.{Al, α, seen, Answer, answer_val, Answer-typed, Answer-Ok, Answer-err, takes_key, Takes, at_takes, Answered, Takes-goes, Takes-gives, answers}
-use Rattle.thin_testing.proofs.Asks.{Row, Asks, at_asks, Asks-goes, Asks-gives}
-use Rattle.thin_testing.proofs.Counting.{Granted, at_granted, Granted-goes, Granted-gives}
-use Rattle.thin_testing.proofs.refusing.Counts.TheLaws.{the_row_laws}
-use Rattle.thin_testing.proofs.refusing.granted.Symbol as g_sym
-use Rattle.thin_testing.proofs.refusing.granted.Met as g_met
-use Rattle.thin_testing.proofs.refusing.refuses.Symbol as c_sym
-use Rattle.thin_testing.proofs.refusing.refuses.Met as c_met
-use Rattle.thin_testing.specs.contracts.refusing.Refusing as wrapper
-use Rattle.thin_testing.specs.contracts.refusing.RefusingAllocator.allocate as F
-use Rattle.thin_testing.specs.contracts.refusing.RefusingAllocator.allocate.Key as key
-use Rattle.thin_testing.proofs.refusing.RefusingAllocator.allocate.Statement as stated
-use Rattle.thin_testing.proofs.refusing.RefusingAllocator.allocate.Code as code
+use Rattle.refusing.proofs.Asks.{Row, Asks, at_asks, Asks-goes, Asks-gives}
+use Rattle.refusing.proofs.Counting.{Granted, at_granted, Granted-goes, Granted-gives}
+use Rattle.refusing.proofs.Counts.TheLaws.{the_row_laws}
+use Rattle.refusing.proofs.granted.Symbol as g_sym
+use Rattle.refusing.proofs.granted.Met as g_met
+use Rattle.refusing.proofs.refuses.Symbol as c_sym
+use Rattle.refusing.proofs.refuses.Met as c_met
+use Rattle.refusing.specs.contracts.Refusing as wrapper
+use Rattle.refusing.specs.contracts.RefusingAllocator.allocate as F
+use Rattle.refusing.specs.contracts.RefusingAllocator.allocate.Key as key
+use Rattle.refusing.proofs.RefusingAllocator.allocate.Statement as stated
+use Rattle.refusing.proofs.RefusingAllocator.allocate.Code as code
 
 -- `after n b` is the function body `b` without its first `n` statements.
 abbrev after : ℕ → Body → Body
@@ -233,7 +233,7 @@ allocate_spec 𝓤 𝓛 𝓜 𝓡 wired Y L g d d' met _ =
     (λ κs. ((λ r vs s. s.0), (uint_Tells w64, (uint_Tells w64, tt))))
     (λ κs qs bounds a τ are. walk Z 𝓛 𝓜.mem 𝓡.returns 𝓣 (met.allocate d')
     (cited 𝓤 𝓛.H _ 𝓜 𝓡 𝓡.env c_sym.name (𝓡.env c_sym.name) refl
-    (c_met.met 𝓤 𝓛 𝓜 𝓡 (code.calls-thin_testing::refusing::refuses 𝓡.env wired)))
+    (c_met.met 𝓤 𝓛 𝓜 𝓡 (code.calls-refusing::refuses 𝓡.env wired)))
     (cited 𝓤 𝓛.H _ 𝓜 𝓡 𝓡.env g_sym.name (𝓡.env g_sym.name) refl
-    (g_met.met 𝓤 𝓛 𝓜 𝓡 (code.calls-thin_testing::refusing::granted 𝓡.env wired))) κs.0 κs.1.0 qs.0 qs.1.0
+    (g_met.met 𝓤 𝓛 𝓜 𝓡 (code.calls-refusing::granted 𝓡.env wired))) κs.0 κs.1.0 qs.0 qs.1.0
     bounds.0 a.0 a.1.0 a.1.1.0 τ are.1.0.1 are.1.1.0.1)))

@@ -12,6 +12,8 @@
 //!
 //! It is proved that every block comes from `inner`, and that a freed block is returned to `inner`.
 //! The counters are only tested, because contracts cannot mention the contents of a `Cell`.
+#![tactic(auto)]
+
 use std::alloc::{AllocError, Allocator, Global};
 use std::cell::Cell;
 use std::rc::Rc;
