@@ -7,7 +7,7 @@ use Rattle.text_editor.specs.declared.command.Command.TheVariants.{Forget, Print
 
 -- `Does command old new` states that a successful run of `command` changes the state of the editor
 -- from `old` to `new`.
-abbrev pub Does : Command → History → History → Type 0
+abbrev pub Does : {A : Type 0} → Command A → History → History → Type 0
 Does (Replace start end characters) old new =
     (new.text ≡ replace_range old.text start end characters.items)
     × (new.past ≡ old.text ∷ old.past) × (new.future ≡ [])

@@ -3,12 +3,12 @@ ghost use Rattle.std.specs.Prelude.{◌≡◌, OnErr, OnOk};
 
 use crate::edit_error::EditError;
 use crate::editor::Editor;
-use std::alloc::Global;
+use std::alloc::{Allocator, Global};
 use thin_vec::ThinVec;
 
 /// A command of the editor. Each line of the input is parsed as one command.
 #[derive(Drop)]
-pub enum Command {
+pub enum Command<A: Allocator = Global> {
     /// Replaces a range of characters. The fields are the start of the range, its exclusive end,
     /// and the new characters.
     ///
@@ -17,7 +17,7 @@ pub enum Command {
     /// - `insert AT TEXT` inserts `TEXT` at the index `AT`.
     /// - `delete FROM TO` removes the characters `FROM..TO`.
     /// - `replace FROM TO TEXT` replaces the characters `FROM..TO` with `TEXT`.
-    Replace(usize, usize, ThinVec<char>),
+    Replace(usize, usize, ThinVec<char, A>),
     /// Undoes the last edit that has not been undone. In the input, the command is written `undo`.
     Undo,
     /// Redoes the edit that was undone last. In the input, the command is written `redo`.
@@ -29,7 +29,7 @@ pub enum Command {
     Print,
 }
 
-impl Command {
+impl<A: Allocator + Copy> Command<A> {
     ghost use Rattle.text_editor.specs.Commands.{Does};
 
     /// Parses a line of the input.
@@ -38,7 +38,7 @@ impl Command {
     ///
     /// Returns `NotACommand` if the line is not a command, and `NoRoom` if there is not enough
     /// memory for the text in the command.
-    pub fn parse(alloc: Global, line: &str) -> Result<Command, EditError> {
+    pub fn parse(alloc: A, line: &str) -> Result<Command<A>, EditError> {
         let (name, rest) = first_word(line);
         match name {
             "insert" => {
@@ -69,7 +69,7 @@ impl Command {
     /// # Errors
     ///
     /// Fails if the edit, the undo or the redo fails. On failure, the editor is unchanged.
-    pub fn run(self, editor: &mut Editor) -> Result<(), EditError>
+    pub fn run(self, editor: &mut Editor<A>) -> Result<(), EditError>
         ensures ok { OnOk result (Does self editor.old editor.new) }
         ensures err { OnErr result (editor.new ≡ editor.old) }
     {
@@ -86,7 +86,12 @@ impl Command {
     }
 }
 
-fn replacement(alloc: Global, start: usize, end: usize, text: &str) -> Result<Command, EditError> {
+fn replacement<A: Allocator>(
+    alloc: A,
+    start: usize,
+    end: usize,
+    text: &str,
+) -> Result<Command<A>, EditError> {
     let mut characters = ThinVec::new(alloc);
     characters
         .extend(text.chars())

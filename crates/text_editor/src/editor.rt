@@ -7,20 +7,20 @@ ghost use Rattle.text_editor.specs.History.{IsNew};
 
 use crate::change::Change;
 use crate::edit_error::EditError;
-use std::alloc::Global;
+use std::alloc::{Allocator, Global};
 use std::marker::Model;
 use thin_vec::{ThinVec, ThinVecError};
 
 /// A text with the history of its edits. In contracts, an editor is a `History`: the text, the
 /// texts that `undo` can restore, and the texts that `redo` can restore.
 #[derive(Drop)]
-pub struct Editor {
-    text: ThinVec<char>,
-    past: ThinVec<Change>,
-    future: ThinVec<Change>,
+pub struct Editor<A: Allocator = Global> {
+    text: ThinVec<char, A>,
+    past: ThinVec<Change<A>, A>,
+    future: ThinVec<Change<A>, A>,
 }
 
-impl Model for Editor {
+impl<A: Allocator> Model for Editor<A> {
     ghost use Rattle.text_editor.specs.History.{History};
 
     ghost Value = { History };
@@ -37,10 +37,10 @@ impl Model for Editor {
         × AllFit e.future.items e.text.items };
 }
 
-impl Editor {
+impl<A: Allocator + Copy> Editor<A> {
     /// Makes an editor with an empty text. There is nothing to undo and nothing to redo. The call
     /// allocates no memory.
-    pub fn new(alloc: Global) -> Editor
+    pub fn new(alloc: A) -> Editor<A>
         ensures new { IsNew result }
     {
         Editor {
@@ -69,7 +69,7 @@ impl Editor {
         &mut self,
         start: usize,
         end: usize,
-        characters: ThinVec<char>,
+        characters: ThinVec<char, A>,
     ) -> Result<(), EditError>
         ensures out_of_bounds { IsErrOf result EditError.OutOfBounds
             ↔ ((end < start) ⊎ (length self.old.text < end)) }
@@ -82,12 +82,14 @@ impl Editor {
         if end < start || self.text.len() < end {
             return Err(EditError::OutOfBounds);
         }
-        let change = Change {
+        let mut change = Change {
             start,
             end,
             characters,
         };
-        change.make(&mut self.text, &mut self.past)?;
+        self.past.reserve(1)?;
+        change.make(&mut self.text)?;
+        self.past.push_reserved(change);
         self.future.clear();
         Ok(())
     }
@@ -98,6 +100,7 @@ impl Editor {
     ///
     /// Returns `NothingToUndo` if there is no such edit, and `NoRoom` if there is not enough
     /// memory. On failure, the editor is unchanged.
+    #[tactic(auto, using(crate::proofs::ChangesLemmas::no_text))]
     pub fn undo(&mut self) -> Result<(), EditError>
         ensures nothing { IsErrOf result EditError.NothingToUndo ↔ (self.old.past ≡ []) }
         ensures text { OnOk result (self.old.past ≡ self.new.text ∷ self.new.past) }
@@ -117,6 +120,7 @@ impl Editor {
     ///
     /// Returns `NothingToRedo` if there is no such edit, and `NoRoom` if there is not enough
     /// memory. On failure, the editor is unchanged.
+    #[tactic(auto, using(crate::proofs::ChangesLemmas::no_text))]
     pub fn redo(&mut self) -> Result<(), EditError>
         ensures nothing { IsErrOf result EditError.NothingToRedo ↔ (self.old.future ≡ []) }
         ensures text { OnOk result (self.old.future ≡ self.new.text ∷ self.new.future) }
@@ -143,13 +147,12 @@ impl Editor {
     }
 }
 
-// Removes the last change from the list `from`, and applies it to `text`. Appends to the list `to`
-// a change that undoes the applied change. On failure, `text` and the items of both lists are
-// unchanged.
-fn step(
-    text: &mut ThinVec<char>,
-    from: &mut ThinVec<Change>,
-    to: &mut ThinVec<Change>,
+// Applies the last change of the list `from` to `text`, and moves it to the list `to`, where it
+// undoes this. On failure, `text` and the items of both lists are unchanged.
+fn step<A: Allocator>(
+    text: &mut ThinVec<char, A>,
+    from: &mut ThinVec<Change<A>, A>,
+    to: &mut ThinVec<Change<A>, A>,
 ) -> Result<(), ThinVecError>
     requires nonempty { 0 < length from.old.items }
     requires from_fit { AllFit from.old.items text.old.items }
@@ -168,10 +171,12 @@ fn step(
     ensures from_err { OnErr result (from.new.items ≡ from.old.items) }
     ensures to_err { OnErr result (to.new.items ≡ to.old.items) }
 {
-    let change = from.pop().unwrap();
-    if let Err(cause) = change.make(text, to) {
+    to.reserve(1)?;
+    let mut change = from.pop().unwrap();
+    if let Err(cause) = change.make(text) {
         from.push_reserved(change);
         return Err(cause);
     }
+    to.push_reserved(change);
     Ok(())
 }

@@ -6,6 +6,8 @@ mod change;
 mod command;
 mod edit_error;
 mod editor;
+#[cfg(test)]
+mod tests;
 
 use command::Command;
 use editor::Editor;

@@ -9,14 +9,14 @@ use Rattle.text_editor.specs.History.{History}
 use Rattle.text_editor.proofs.editor.Editor.forget.Goals as goal
 
 pub invariant_of-self : goal.invariant_of-self
-invariant_of-self c =
+invariant_of-self g c =
     let past = c.self.inside.past.items in
     let oldest = c.len-then-count-len.result - c.args.count in
     let kept : c.drop-drain.new.self.0.items ≡ drop oldest past = search rules in
     (rw kept (AllFit-drop oldest past _ c.self.invariant.0), c.self.invariant.1)
 
 pub returns-then-count-len-clause-past : goal.returns-then-count-len-clause-past
-returns-then-count-len-clause-past c =
+returns-then-count-len-clause-past g c =
     let past = c.self.inside.past.items in
     let text = c.self.inside.text.items in
     let oldest = c.len-then-count-len.result - c.args.count in
@@ -28,7 +28,7 @@ returns-then-count-len-clause-past c =
     ∙ ap (λ (h : History). take c.args.count h.past) c.self.view_is))
 
 pub returns-else-count-len-clause-past : goal.returns-else-count-len-clause-past
-returns-else-count-len-clause-past c =
+returns-else-count-len-clause-past g c =
     let all = length-texts_of c.self.inside.past.items c.self.inside.text.items in
     let same = ap (λ (h : History). length h.past) c.self.view_is in
     sym (take_all c.args.count c.args.self.now.past (omega (arith, all, same)))
