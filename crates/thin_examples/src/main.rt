@@ -2,6 +2,7 @@
 #![tactic(auto)]
 
 mod add;
+mod bytes;
 mod commands;
 mod common;
 mod costs;
@@ -21,7 +22,7 @@ mod write;
 
 use crate::commands::Evens;
 use crate::structs::{Page, Percents, Style};
-use crate::tree::Node;
+use crate::tree::{Node, Value};
 use std::alloc::Global;
 use std::collections::BTreeMap;
 use std::fmt::Debug;
@@ -33,6 +34,7 @@ fn main(rt: HostRuntime) -> io::Result<()> {
     show_common(&rt, rt.alloc())?;
     show_make(&rt, rt.alloc())?;
     show_add(&rt, rt.alloc())?;
+    show_bytes(&rt, rt.alloc())?;
     show_remove(&rt, rt.alloc())?;
     show_read(&rt, rt.alloc())?;
     show_write(&rt, rt.alloc())?;
@@ -177,6 +179,15 @@ fn show_extend(rt: &impl Print, alloc: Global) -> io::Result<()> {
     )
 }
 
+fn show_bytes(rt: &impl Print, alloc: Global) -> io::Result<()> {
+    let mut text = ThinVec::new(alloc);
+    bytes::write_count(&mut text, 12)?;
+    let mut input: &[u8] = b"; 3";
+    println!(rt; "read_all: {}", bytes::read_all(&mut input, &mut text)?)?;
+    let text = String::from_utf8(text.into_vec(alloc)?);
+    println!(rt; "write_count: {text:?}")
+}
+
 fn show_remove(rt: &impl Print, alloc: Global) -> io::Result<()> {
     show_keep_even(rt, alloc)?;
     show_remove_odd(rt, alloc)?;
@@ -187,6 +198,7 @@ fn show_remove(rt: &impl Print, alloc: Global) -> io::Result<()> {
     show_keep_last_digits(rt, alloc)?;
     show_keep_halves(rt, alloc)?;
     show_pop_even(rt, alloc)?;
+    show_remove_at(rt, alloc)?;
     show_consumed(rt, alloc)
 }
 
@@ -244,6 +256,15 @@ fn show_pop_even(rt: &impl Print, alloc: Global) -> io::Result<()> {
     println!(rt; "pop_even: {popped:?}, left {list:?}")
 }
 
+fn show_remove_at(rt: &impl Print, alloc: Global) -> io::Result<()> {
+    let mut list = ThinVec::from_array(alloc, [1, 2, 3])?;
+    let removed = (
+        remove::remove_at(&mut list, 1),
+        remove::remove_at(&mut list, 7),
+    );
+    println!(rt; "remove_at: {removed:?}, left {list:?}")
+}
+
 fn show_consumed(rt: &impl Print, alloc: Global) -> io::Result<()> {
     let least = remove::least(ThinVec::from_array(alloc, [5, 3, 4])?, 9);
     show(rt, "least", least)?;
@@ -257,6 +278,8 @@ fn show_read(rt: &impl Print, alloc: Global) -> io::Result<()> {
     let list = ThinVec::from_array(alloc, [1, 2, 3, 4])?;
     let neighbors = read::neighbors(&list, 1);
     println!(rt; "neighbors: {neighbors:?}")?;
+    println!(rt; "first_number: {:?}", read::first_number(&list))?;
+    println!(rt; "number_at: {}", read::number_at(&list, 7, 0))?;
     println!(rt; "run_end: {}", read::run_end(&list, 1, 2))?;
     println!(rt; "count_even: {}", read::count_even(&list))?;
     println!(rt; "count_below: {}", read::count_below(&list, 3))?;
@@ -269,7 +292,9 @@ fn show_read(rt: &impl Print, alloc: Global) -> io::Result<()> {
 
 fn show_write(rt: &impl Print, alloc: Global) -> io::Result<()> {
     show_halve(rt, alloc)?;
+    show_limit_each(rt, alloc)?;
     show_sort_pairs(rt, alloc)?;
+    show_sort_as_text(rt, alloc)?;
     show_set(rt, alloc)?;
     show_set_last(rt, alloc)
 }
@@ -286,10 +311,21 @@ fn show_halve(rt: &impl Print, alloc: Global) -> io::Result<()> {
     println!(rt; "sort: {list:?}")
 }
 
+fn show_limit_each(rt: &impl Print, alloc: Global) -> io::Result<()> {
+    let list = ThinVec::from_array(alloc, [3, 9])?;
+    show(rt, "limit_each", write::limit_each(list, 5))
+}
+
 fn show_sort_pairs(rt: &impl Print, alloc: Global) -> io::Result<()> {
     let mut pairs = ThinVec::from_array(alloc, [(2, 7), (1, 9), (2, 5)])?;
     write::sort_pairs(&mut pairs)?;
     println!(rt; "sort_pairs: {pairs:?}")
+}
+
+fn show_sort_as_text(rt: &impl Print, alloc: Global) -> io::Result<()> {
+    let mut list = ThinVec::from_array(alloc, [9, 10, 8])?;
+    write::sort_as_text(&mut list, alloc)?;
+    show(rt, "sort_as_text", list)
 }
 
 fn show_set(rt: &impl Print, alloc: Global) -> io::Result<()> {
@@ -317,6 +353,7 @@ fn show_set_last(rt: &impl Print, alloc: Global) -> io::Result<()> {
 fn show_replace(rt: &impl Print, alloc: Global) -> io::Result<()> {
     show_replace_word(rt, alloc)?;
     show_replace_lines(rt, alloc)?;
+    show_swap_back(rt, alloc)?;
     show_insert_names(rt, alloc)
 }
 
@@ -331,6 +368,13 @@ fn show_replace_lines(rt: &impl Print, alloc: Global) -> io::Result<()> {
     let mut other = ThinVec::from_array(alloc, ["x", "y"])?;
     replace::replace_lines(&mut lines, 0, 1, &mut other)?;
     show(rt, "replace_lines", lines)
+}
+
+fn show_swap_back(rt: &impl Print, alloc: Global) -> io::Result<()> {
+    let mut lines = ThinVec::from_array(alloc, ["a", "b", "c"])?;
+    let mut other = ThinVec::from_array(alloc, ["x", "y"])?;
+    replace::swap_back(&mut lines, 0, 1, &mut other)?;
+    println!(rt; "swap_back: {lines:?} and {other:?}")
 }
 
 fn show_insert_names(rt: &impl Print, alloc: Global) -> io::Result<()> {
@@ -472,7 +516,11 @@ fn show_maps(rt: &impl Print, alloc: Global) -> io::Result<()> {
     let mut lists = BTreeMap::new(alloc);
     maps::append_to(&mut lists, 4, 10)?;
     maps::append_to(&mut lists, 4, 11)?;
-    println!(rt; "append_to: {lists:?}")
+    println!(rt; "append_to: {lists:?}")?;
+    let mut counts = BTreeMap::new(alloc);
+    maps::count_word(&mut counts, ThinVec::from_array(alloc, [7, 8])?)?;
+    maps::count_word(&mut counts, ThinVec::from_array(alloc, [7, 8])?)?;
+    println!(rt; "count_word: {counts:?}")
 }
 
 fn show_graph(rt: &impl Print, alloc: Global) -> io::Result<()> {
@@ -513,7 +561,10 @@ fn show_tree(rt: &impl Print, alloc: Global) -> io::Result<()> {
     root.paint(4);
     println!(rt; "Node::paint: kind {}", root.kind)?;
     root.take_apart(alloc)?;
-    println!(rt; "Node::take_apart: no node is left")
+    println!(rt; "Node::take_apart: no node is left")?;
+    let inner = Value::Array(thin_vec![alloc => Value::Number(1), Value::Number(2)]?);
+    let value = Value::Array(thin_vec![alloc => inner, Value::Number(3)]?);
+    println!(rt; "Value::count: {}", value.count())
 }
 
 fn show_tables(rt: &impl Print, alloc: Global) -> io::Result<()> {
@@ -550,6 +601,9 @@ fn show_table_take(rt: &impl Print, alloc: Global) -> io::Result<()> {
 fn show_table_clear(rt: &impl Print, alloc: Global) -> io::Result<()> {
     let mut counts = tables::for_a_week(alloc)?;
     tables::add(&mut counts, 2, 8, 6)?;
+    tables::add(&mut counts, 2, 9, 5)?;
+    tables::remove_below(&mut counts, 2, 6);
+    println!(rt; "remove_below: {counts:?}")?;
     tables::halve(&mut counts, 2, 8);
     println!(rt; "halve: {counts:?}")?;
     tables::clear(&mut counts, 2);

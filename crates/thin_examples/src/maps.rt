@@ -1,7 +1,9 @@
-//! An example of a map of lists.
-ghost use Rattle.std.specs.Prelude.{◌≡◌, ◌≢◌, ◌++◌, [], ◌∷◌, ℕ, OnErr, OnOk};
+//! Examples of maps whose values or keys are lists.
+ghost use Rattle.std.specs.Prelude.{◌≡◌, ◌≢◌, ◌+◌, ◌-◌, ◌^◌, ◌++◌, List, [], ◌∷◌, ℕ, OnErr, OnOk, min};
+ghost use Rattle.thin_examples.specs.CountsByList.{count_of};
 ghost use Rattle.thin_examples.specs.ListsByKey.{items_at};
 
+use std::alloc::AllocError;
 use std::collections::BTreeMap;
 use thin_vec::{ThinVec, ThinVecError};
 
@@ -25,5 +27,26 @@ pub fn append_to(
         return Err(ThinVecError::OutOfMemory);
     };
     entry.or_default().push(number)?;
+    Ok(())
+}
+
+/// Counts `word` once more, up to `u32::MAX` times. Two lists are the same key if they have the
+/// same bytes.
+///
+/// # Errors
+///
+/// Fails if there is no memory for a new key. On failure, `word` is dropped, and no count changes.
+pub fn count_word(
+    counts: &mut BTreeMap<ThinVec<u8>, u32>,
+    word: ThinVec<u8>,
+) -> Result<(), AllocError>
+    ensures word { OnOk result (count_of counts.new word.items
+        ≡ min (count_of counts.old word.items + 1) (2 ^ 32 - 1)) }
+    ensures others { (other : List ℕ) → other ≢ word.items
+        → count_of counts.new other ≡ count_of counts.old other }
+    ensures err { OnErr result (count_of counts.new word.items ≡ count_of counts.old word.items) }
+{
+    let count = counts.entry(word)?.or_insert(0);
+    *count = count.saturating_add(1);
     Ok(())
 }

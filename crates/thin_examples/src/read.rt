@@ -4,7 +4,7 @@ ghost use Rattle.std.specs.Hash.DefaultHasher as sip;
 ghost use Rattle.std.specs.List.{HoldsAt};
 ghost use Rattle.std.specs.List.Sorted.{IsPartitionPoint, IsSearchInRange};
 ghost use Rattle.std.specs.Ordering.{nat_cmp};
-ghost use Rattle.std.specs.Prelude.{◌≡◌, ◌+◌, ◌%◌, ◌<◌, ◌≤◌, ◌==◌, ◌↔◌, IfErr, IfOk, IsSorted, IsTrue, filter, fold, length, slice_index};
+ghost use Rattle.std.specs.Prelude.{◌≡◌, ◌+◌, ◌%◌, ◌<◌, ◌≤◌, ◌==◌, ◌↔◌, IfErr, IfOk, IsSorted, IsTrue, filter, fold, length, slice_get, slice_index, slice_index_or};
 ghost use Rattle.thin_vec.specs.ThinVec.{IsBounded};
 
 use std::alloc::Allocator;
@@ -35,6 +35,24 @@ pub fn run_end<T, A: Allocator, G: Growth>(
     ensures value { result ≡ start + count }
 {
     start + count
+}
+
+/// Returns the first number, if there is one.
+pub fn first_number<A: Allocator, G: Growth>(list: &ThinVec<u32, A, G>) -> Option<u32>
+    ensures value { result ≡ slice_get list.now.items 0 }
+{
+    list.first().copied()
+}
+
+/// Returns the number at an index that comes from input, or `otherwise` if it is out of bounds.
+pub fn number_at<A: Allocator, G: Growth>(
+    list: &ThinVec<u32, A, G>,
+    index: usize,
+    otherwise: u32,
+) -> u32
+    ensures value { result ≡ slice_index_or list.now.items index otherwise }
+{
+    list.get(index).copied().unwrap_or(otherwise)
 }
 
 /// Counts the even numbers. The loop is over `list.as_slice()`, so that its invariant can refer to

@@ -1,8 +1,8 @@
 //! Examples that remove items from a list.
-ghost use Rattle.std.specs.List.{dedup, fold};
+ghost use Rattle.std.specs.List.{dedup, fold, remove};
 ghost use Rattle.std.specs.List.Sorted.{IsSorted, IsStrictlyIncreasing};
 ghost use Rattle.std.specs.Ordering.{nat_cmp};
-ghost use Rattle.std.specs.Prelude.{◌≡◌, ◌+◌, ◌%◌, ◌/◌, ◌==◌, ◌++◌, [], ◌∷◌, IfNone, IfOk, IfSome, IsOk, filter, length, map, min, nat_le, reverse};
+ghost use Rattle.std.specs.Prelude.{◌≡◌, ◌+◌, ◌%◌, ◌/◌, ◌==◌, ◌++◌, [], ◌∷◌, IfNone, IfOk, IfSome, IsOk, OnSome, filter, length, map, min, nat_le, reverse, slice_get};
 ghost use Rattle.thin_examples.specs.EverySecond.{every_second};
 
 use std::alloc::{AllocError, Allocator, Global};
@@ -107,6 +107,15 @@ pub fn pop_even<A: Allocator, G: Growth>(list: &mut ThinVec<u32, A, G>) -> Optio
     ensures capacity { list.new.capacity ≡ list.old.capacity }
 {
     list.pop_if(|number: &mut u32| *number % 2 == 0)
+}
+
+/// Removes and returns the item at an index that comes from input, if there is one.
+pub fn remove_at<T, A: Allocator, G: Growth>(list: &mut ThinVec<T, A, G>, index: usize) -> Option<T>
+    ensures found { result ≡ slice_get list.old.items index }
+    ensures items { OnSome result (list.new.items ≡ remove list.old.items index) }
+    ensures unchanged { IfNone result (list.new ≡ list.old) }
+{
+    list.try_remove(index)
 }
 
 /// Consumes the list, and returns the minimum of `start` and all its numbers.

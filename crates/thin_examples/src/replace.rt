@@ -55,6 +55,30 @@ pub fn replace_lines<T: Drop, A: Allocator, G: Growth>(
     lines.replace_range_from_list(start, end, newer)
 }
 
+/// Exchanges the lines at the indices `start..end` with the lines of `other`, and undoes this by
+/// the same call. By the lemmas `replaced-undone` and `replaced-range`, both lists then have their
+/// old lines.
+///
+/// # Errors
+///
+/// Fails if there is no room for the exchange, before any line changes its place. The second call
+/// cannot fail.
+pub fn swap_back<T, A: Allocator, G: Growth>(
+    lines: &mut ThinVec<T, A, G>,
+    start: usize,
+    end: usize,
+    other: &mut ThinVec<T, A, G>,
+) -> Result<(), ThinVecError>
+    requires start_le_end { start ≤ end }
+    requires in_bounds { end ≤ length lines.old.items }
+    ensures items { lines.new.items ≡ lines.old.items }
+    ensures other_items { other.new.items ≡ other.old.items }
+{
+    let count = other.len();
+    lines.swap_range(start, end, other)?;
+    lines.swap_range(start, start + count, other)
+}
+
 /// Inserts clones of `names` at the index `at`.
 ///
 /// # Errors

@@ -1,7 +1,7 @@
 //! Examples of a sparse table of counts. A place without an entry has the count 0.
 ghost use Rattle.std.specs.FinMap as columns;
 ghost use Rattle.std.specs.Option.{unwrap_or};
-ghost use Rattle.std.specs.Prelude.{◌≡◌, ◌↔◌, [], ◌+◌, ◌-◌, ◌^◌, ◌<◌, ◌/◌, IfErr, IfOk, IfSome, IsNone, IsOk, IsSome, IsTrue, OnErr, OnOk, Some, length, map, min, replicate, sum};
+ghost use Rattle.std.specs.Prelude.{◌≡◌, ◌↔◌, [], ◌+◌, ◌-◌, ◌^◌, ◌<◌, ◌/◌, IfErr, IfOk, IfSome, IsNone, IsOk, IsSome, IsTrue, OnErr, OnOk, Some, filter, length, map, min, nat_le, replicate, slice_set, sum};
 ghost use Rattle.thin_rows.specs.EntryType.{capacity_after_insert};
 ghost use Rattle.thin_rows.specs.Table.{entries_of, row_at, value_at, with_empty_row, with_value, without_value};
 ghost use Rattle.thin_vec.specs.List.Capacity.{OverflowsIff, map_cause};
@@ -114,6 +114,16 @@ pub fn clear<A: Allocator>(counts: &mut Rows<u32, A>, row: usize)
     ensures table { counts.new ≡ with_empty_row counts.old row }
 {
     counts.clear_row(row);
+}
+
+/// Removes the counts of `row` that are less than `least`.
+pub fn remove_below<A: Allocator>(counts: &mut Rows<u32, A>, row: usize, least: u32)
+    requires in_bounds { row < length counts.old }
+    ensures entries { columns.entries (row_at counts.new row)
+        ≡ filter (λ entry. nat_le least entry.1) (columns.entries (row_at counts.old row)) }
+    ensures changes { counts.new ≡ slice_set counts.old row (row_at counts.new row) }
+{
+    counts.retain_row(row, |entry| entry.1 >= least);
 }
 
 /// Halves the count at `row` and `column`, rounding down. If there is no count, nothing changes.

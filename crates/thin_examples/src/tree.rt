@@ -1,7 +1,7 @@
-//! An example of a type that holds a list of its own values: a node of a tree.
+//! Examples of types that hold lists of their own values: a struct, and an enum.
 ghost use Rattle.std.specs.Prelude.{◌≡◌, ◌+◌, ◌-◌, ◌^◌, [], ◌∷◌, ◌++◌, IfErr, IsOk, OnErr, OnOk, min};
 ghost use Rattle.thin_vec.specs.ThinVec.{HasRoomFor, IsNew};
-ghost use Rattle.thin_examples.specs.Tree.{children_of, kind_of, node_count, painted};
+ghost use Rattle.thin_examples.specs.Tree.{children_of, kind_of, node_count, number_count, painted};
 
 use std::alloc::Global;
 use thin_vec::{Rejected, ThinVec, ThinVecError};
@@ -83,5 +83,30 @@ impl Node {
             waiting.append(&mut children)?;
         }
         Ok(())
+    }
+}
+
+/// A value of a document: a number, or an array of values.
+#[derive(Drop)]
+pub enum Value {
+    Number(u32),
+    Array(ThinVec<Value>),
+}
+
+impl Value {
+    /// Returns how many numbers the value has. If there are more than `u64::MAX`, returns
+    /// `u64::MAX`.
+    pub fn count(&self) -> u64
+        ensures value { result ≡ min (number_count self.now) (2 ^ 64 - 1) }
+    {
+        let values = match self {
+            Value::Number(_) => return 1,
+            Value::Array(values) => values,
+        };
+        let mut count = 0u64;
+        for value in values {
+            count = count.saturating_add(value.count());
+        }
+        count
     }
 }

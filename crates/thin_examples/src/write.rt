@@ -2,7 +2,7 @@
 ghost use Rattle.std.specs.List.{swap};
 ghost use Rattle.std.specs.Prelude.{◌≡◌, ◌-◌, ◌/◌, ◌<◌, ◌≤◌, ◌++◌, reverse as reversed, IsPermutation, IsSorted, OnErr, drop, length, map, replicate, slice_index, slice_set, take};
 
-use std::alloc::{AllocError, Allocator};
+use std::alloc::{AllocError, Allocator, Global};
 use thin_vec::{Growth, ThinVec};
 
 /// Subtracts `less` from the first number, and returns the old first number.
@@ -20,8 +20,8 @@ pub fn lower_first<A: Allocator, G: Growth>(list: &mut ThinVec<u32, A, G>, less:
 
 /// Halves each number, rounding down, in a loop over the items.
 ///
-/// The loop is over the items of the slice: a contract cannot yet say which items a list has after
-/// a loop `for number in &mut list`, only that it has as many as before.
+/// The loop is over the items of the slice: after a loop as in `limit_each`, a contract cannot yet
+/// say which items a list has.
 pub fn halve_each<A: Allocator, G: Growth>(list: &mut ThinVec<u32, A, G>)
     ensures items { list.new.items ≡ map (λ number. number / 2) list.old.items }
     ensures capacity { list.new.capacity ≡ list.old.capacity }
@@ -29,6 +29,20 @@ pub fn halve_each<A: Allocator, G: Growth>(list: &mut ThinVec<u32, A, G>)
     for number in list.as_mut_slice().iter_mut() {
         *number /= 2;
     }
+}
+
+/// Writes `limit` over each number that is greater. All that a contract can say of such a loop is
+/// how many items the list has.
+pub fn limit_each<A: Allocator, G: Growth>(
+    mut list: ThinVec<u32, A, G>,
+    limit: u32,
+) -> ThinVec<u32, A, G>
+    ensures len { length result.items ≡ length list.items }
+{
+    for number in &mut list {
+        *number = limit.min(*number);
+    }
+    list
 }
 
 /// Halves each number, rounding down, in a loop over the indices.
@@ -62,6 +76,23 @@ pub fn sort_pairs<A: Allocator, G: Growth>(
     ensures capacity { list.new.capacity ≡ list.old.capacity }
 {
     list.sort_by_key(|pair| pair.0)
+}
+
+/// Sorts the numbers as texts, so that 10 comes before 9. The text of each number is made once. A
+/// number for whose text `alloc` refuses the memory comes first.
+///
+/// # Errors
+///
+/// Fails if the allocator of the list refuses the memory for the keys. On failure, the list is
+/// unchanged.
+pub fn sort_as_text<A: Allocator, G: Growth>(
+    list: &mut ThinVec<u32, A, G>,
+    alloc: Global,
+) -> Result<(), AllocError>
+    ensures permutation { IsPermutation list.old.items list.new.items }
+    ensures err { OnErr result (list.new ≡ list.old) }
+{
+    list.sort_by_cached_key(|number| format!(in alloc; "{number}").ok())
 }
 
 /// Writes `value` over the first number.
