@@ -17,7 +17,7 @@ struct Twins {
 }
 
 // The number of calls.
-const CALLS: usize = 13;
+const CALLS: usize = 20;
 
 #[test]
 fn lists_of_u64_agree_with_vectors(rt: HostRuntime) {
@@ -57,7 +57,9 @@ fn agree(alloc: Global, length: u64, argument: usize, call: usize) -> bool {
         0..4 => twins.add(call),
         4..7 => twins.append(call).unwrap_or(false),
         7..11 => twins.replace(call).unwrap_or(false),
-        _ => twins.make(call).unwrap_or(false),
+        11..13 => twins.make(call).unwrap_or(false),
+        13..15 => twins.remove(call),
+        _ => twins.write(call),
     };
     same && twins.list.as_slice() == twins.vec.as_slice()
 }
@@ -164,14 +166,60 @@ impl Twins {
         let alloc = self.alloc;
         match call {
             11 => self.list = self.list.clone_copies(alloc)?,
-            12 => {
+            _ => {
                 let list = mem::replace(&mut self.list, ThinVec::new(alloc));
                 self.list = ThinVec::from_vec(alloc, list.into_vec(alloc)?)?;
             }
-            _ => return Ok(false),
         }
         Ok(true)
     }
+
+    // Makes a call that removes an item if there is one at the index.
+    fn remove(&mut self, call: usize) -> bool {
+        let (list, vec, index) = (&mut self.list, &mut self.vec, self.start);
+        if index >= vec.len() {
+            return list.try_remove(index).is_none() && list.try_swap_remove(index).is_none();
+        }
+        match call {
+            13 => list.try_remove(index) == Some(vec.remove(index)),
+            _ => list.try_swap_remove(index) == Some(vec.swap_remove(index)),
+        }
+    }
+
+    // Makes a call that writes many items.
+    fn write(&mut self, call: usize) -> bool {
+        let (start, end) = (self.start, self.end);
+        if start > end || end > self.list.len() || end > self.vec.len() {
+            return false;
+        }
+        match call {
+            15 => return both!(self, x => x.try_resize_with(end, || nine()).is_ok()),
+            16 => {
+                self.list.slice_mut(start, end).fill(9);
+                self.vec.slice_mut(start..end).fill(9);
+            }
+            17 => {
+                self.list.fill_with(|| 5);
+                self.vec.fill_with(|| 5);
+            }
+            18 => {
+                self.list.copy_within(start..end, 0);
+                self.vec.copy_within(start..end, 0);
+            }
+            19 => {
+                self.vec.reverse();
+                if self.list.len() == self.vec.len() {
+                    self.list.copy_from_slice(&self.vec);
+                }
+            }
+            _ => return false,
+        }
+        true
+    }
+}
+
+fn nine() -> Result<u64, AllocError> {
+    Ok(9)
 }
 
 // Halves the item, and returns whether it was even.

@@ -12,12 +12,13 @@ pub struct Reading {}
 impl<T: Numbered, G: Growth> Calls<T, G> for Reading {
     const ARGUMENTS: usize = 5;
 
-    fn call<R: Abort>(_rt: &R, case: &mut Case<T, G>, call: usize) -> Option<Answer> {
+    fn call<R: Abort>(rt: &R, case: &mut Case<T, G>, call: usize) -> Option<Answer> {
         Some(match call {
             0 => read(case),
             1 => write(case),
             2 => clone(case),
             3 => clone_of_trait(case),
+            4 => fill_with(rt, case),
             _ => return None,
         })
     }
@@ -36,11 +37,24 @@ fn read<T: Numbered, G: Growth>(case: &mut Case<T, G>) -> Answer {
 
 fn write<T: Numbered, G: Growth>(case: &mut Case<T, G>) -> Answer {
     let (index, item) = (case.index(), case.item());
-    case.begin("list[index] = item");
+    case.begin("list[index] = item, slice_mut");
     if index < case.list.len() {
         case.list[index] = item;
+        case.list.slice_mut(0, index).reverse();
     }
     Ok(Due::NOTHING)
+}
+
+fn fill_with<T: Numbered, G: Growth, R: Abort>(rt: &R, case: &mut Case<T, G>) -> Answer {
+    let len = case.list.len();
+    let mut made = case.items(len)?;
+    let ledger = case.ledger;
+    case.begin("fill_with");
+    case.list.fill_with(move || {
+        let _earlier = ledger.called();
+        made.pop().expect(rt, "an item")
+    });
+    Ok(Due::calls(len))
 }
 
 fn clone<T: Numbered, G: Growth>(case: &mut Case<T, G>) -> Answer {
