@@ -64,6 +64,14 @@ class Mutants(ToolTest):
             samples.add(tuple(it.name for it in found))
         self.assertEqual(len(samples), 100)
 
+    def test_a_crate_with_a_body_can_name_what_hands_on_the_number(self):
+        listed = "thin_vec: thin_block\nlow:\ntests: thin_vec low\nother:\n"
+        files = [f"crates/{crate}/src/lib.rt" for crate in ("thin_vec", "low", "tests")]
+        self.assertEqual(
+            load("mutants").with_thin_vec(listed, files),
+            listed.replace("low:", "low: thin_vec"),
+        )
+
     def test_a_test_sees_a_body_only_if_it_passes_without_one(self):
         mutants = load("mutants")
         # The numbers of a body with which each test fails.
