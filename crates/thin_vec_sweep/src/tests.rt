@@ -211,7 +211,7 @@ fn each_group_makes_each_of_its_calls_with_each_argument(rt: HostRuntime) {
     assert_eq!(rt; cases::<Copying, u8, _>(&rt, ledger), 200 + 8 * 4);
     assert_eq!(rt; cases::<Filtering, Small, _>(&rt, ledger), 150 + 16 * 6);
     assert_eq!(rt; cases::<Making, Small, _>(&rt, ledger), 16 * 7);
-    assert_eq!(rt; cases::<Reading, Small, _>(&rt, ledger), 5 * 4);
+    assert_eq!(rt; cases::<Reading, Small, _>(&rt, ledger), 5 * 5);
     assert_eq!(rt;
         cases::<Removing, Small, _>(&rt, ledger),
         150 * 3 + 25 + 10 * 12
