@@ -30,8 +30,9 @@ module _ {T F : Type 0} (R : F → T → Bool → F → T → Type 0) where
 
 -- `R` says what a call of the closure does, as for `ExtractsInTurn`.
 module _ {T F A : Type 0} (R : F → T → Bool → F → T → Type 0) where
-  -- `ExtractsOne old item new` describes a call to `next` that returned `item`. The values `old`
-  -- and `new` are the block and the closure of the `ExtractIf` before and after the call.
+  -- `ExtractsOne old item new` describes a call to `next` that returned `item`. An `ExtractState`
+  -- is what an `ExtractIf` owns: its open block, `block`, and its closure, `picks.pick`. The values
+  -- `old` and `new` are those before and after the call.
   pub record ExtractsOne (old : ExtractState T F A) (item : Option T)
       (new : ExtractState T F A) : Type 0 where
     pub kept : List T

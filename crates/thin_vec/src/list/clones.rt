@@ -36,7 +36,8 @@ impl<T: Clone, A: Allocator, G: Growth> ThinVec<T, A, G> {
 
         // On failure. The first three clauses follow from `err` and `overflow`, and are what most
         // callers need. `err`: either the list had no room, and nothing changed, or the clone of
-        // the item `at` failed. Then the capacity is that of a success, and `at` clones are moves.
+        // the item `at` failed. Then the capacity is that of a success, and the cost includes one
+        // move for each of the `at` clones that were made.
         ensures err_items { OnErr result (self.new.items ≡ self.old.items) }
         ensures err_overflow { IsErrOf result ThinVecError.CapacityOverflow
             → self.new ≡ self.old }
@@ -74,7 +75,7 @@ impl<T: Clone, A: Allocator, G: Growth> ThinVec<T, A, G> {
     pub fn clone(&self, alloc: A) -> Result<ThinVec<T, A, G>, ThinVecError>
         // On success: a clone of each item, in order (`items`), in a list that has the allocator
         // `alloc` and no spare capacity. This costs one move for each item, and one block, unless
-        // there is none.
+        // the list has no items.
         ensures items { IfOk result (λ list. AllZip T.is_clone self.now.items list.items) }
         ensures capacity { IfOk result (λ list. list.capacity ≡ length self.now.items) }
         ensures cost { IfOk result (λ list. list.cost ≡ add_moves (length self.now.items)
@@ -206,7 +207,8 @@ impl<T: Clone, A: Allocator, G: Growth> ThinVec<T, A, G> {
 
         // On failure. The first three clauses follow from `err` and `overflow`, and are what most
         // callers need. `err`: either the list had no room, and nothing changed, or the clone of
-        // the item `at` failed. Then the capacity is that of a success, and `at` clones are moves.
+        // the item `at` failed. Then the capacity is that of a success, and the cost includes one
+        // move for each of the `at` clones that were made.
         ensures err_items { OnErr result (self.new.items ≡ self.old.items) }
         ensures err_overflow { IsErrOf result ThinVecError.CapacityOverflow
             → self.new ≡ self.old }
