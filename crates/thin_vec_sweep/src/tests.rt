@@ -14,7 +14,7 @@ use crate::calls::replacing::Replacing;
 use crate::sweep::{Calls, sweep};
 use std::alloc::Global;
 use std::process::Abort;
-use thin_testing::{Counted, CountedWord, Ledger, Numbered, Ruled, Threefold};
+use thin_testing::{Counted, CountedWord, Ledger, Numbered, Ruled, Threefold, check, same};
 use thin_vec::{Doubling, PowerBytes};
 
 /// The lengths of lists on which each call is tried with several spare capacities and arguments.
@@ -205,16 +205,13 @@ fn cases<C: Calls<T, Doubling>, T: Numbered, R: Abort>(rt: &R, ledger: &'static 
 #[test]
 fn each_group_makes_each_of_its_calls_with_each_argument(rt: HostRuntime) {
     let ledger = Ledger::leaked(rt.alloc()).expect(&rt, "memory");
-    assert_eq!(rt; cases::<Adding, Small, _>(&rt, ledger), 40 * 9 + 5 * 6);
-    assert_eq!(rt; cases::<Bytes, u8, _>(&rt, ledger), 8 * 3);
-    assert_eq!(rt; cases::<Comparing, Small, _>(&rt, ledger), 5 * 3);
-    assert_eq!(rt; cases::<Copying, u8, _>(&rt, ledger), 200 + 8 * 4);
-    assert_eq!(rt; cases::<Filtering, Small, _>(&rt, ledger), 150 + 16 * 6);
-    assert_eq!(rt; cases::<Making, Small, _>(&rt, ledger), 16 * 7);
-    assert_eq!(rt; cases::<Reading, Small, _>(&rt, ledger), 5 * 5);
-    assert_eq!(rt;
-        cases::<Removing, Small, _>(&rt, ledger),
-        150 * 3 + 25 + 10 * 12
-    );
-    assert_eq!(rt; cases::<Replacing, Small, _>(&rt, ledger), 200 * 3 + 5 * 2);
+    check!(rt; same(cases::<Adding, Small, _>(&rt, ledger), 40 * 9 + 5 * 6));
+    check!(rt; same(cases::<Bytes, u8, _>(&rt, ledger), 8 * 3));
+    check!(rt; same(cases::<Comparing, Small, _>(&rt, ledger), 5 * 3));
+    check!(rt; same(cases::<Copying, u8, _>(&rt, ledger), 200 + 8 * 5));
+    check!(rt; same(cases::<Filtering, Small, _>(&rt, ledger), 150 + 16 * 6));
+    check!(rt; same(cases::<Making, Small, _>(&rt, ledger), 16 * 7));
+    check!(rt; same(cases::<Reading, Small, _>(&rt, ledger), 5 * 5));
+    check!(rt; same(cases::<Removing, Small, _>(&rt, ledger), 150 * 3 + 25 + 10 * 12));
+    check!(rt; same(cases::<Replacing, Small, _>(&rt, ledger), 200 * 3 + 5 * 2));
 }

@@ -4,7 +4,7 @@ use crate::tests::page::Page;
 use bench::{Checks, Outcome, report, report_rows};
 use std::alloc::{Allocator, Global};
 use std::process::Abort;
-use thin_testing::{Refusing, check};
+use thin_testing::{Refusing, check, same};
 use thin_vec::{ThinVec, ThinVecError};
 
 // Returns what `report` writes if every row is ok. The missing numbers have tests, and no row.
@@ -37,8 +37,8 @@ fn report_into<A: Allocator + Copy>(alloc: A, text: &mut String, failing: usize)
 fn assert_whole<A: Allocator + Copy>(rt: &impl Abort, alloc: A, whole: &String) -> usize {
     let mut text = String::new(*whole.allocator());
     let (status, writes) = report_into(alloc, &mut text, 0);
-    assert_eq!(rt; status, 0);
-    assert_eq!(rt; text.as_str(), whole.as_str());
+    check!(rt; same(status, 0));
+    check!(rt; same(text.as_str(), whole.as_str()));
     writes
 }
 
@@ -50,7 +50,7 @@ fn assert_stops_at(rt: &impl Abort, whole: &String, failing: usize) {
     let counting = Refusing::new(alloc, 0);
     let mut text = String::new(alloc);
     let answer = report_into(&counting, &mut text, failing);
-    assert_eq!(rt; answer, (3, failing));
+    check!(rt; same(answer, (3, failing)));
     assert!(rt;
         whole.as_str().starts_with(text.as_str()) && counting.blocks() == 0,
         "at write {failing}"
@@ -74,7 +74,7 @@ fn assert_ends_without_memory(rt: &impl Abort, whole: &String, nth: u64) {
     let refusing = Refusing::new(alloc, nth);
     let mut text = String::new(alloc);
     let (status, _writes) = report_into(&refusing, &mut text, 0);
-    assert_eq!(rt; (status, refusing.blocks()), (2, 0));
+    check!(rt; same((status, refusing.blocks()), (2, 0)));
     let lines = text.as_str().strip_suffix("out of memory\n");
     let lines = lines.unwrap_or("another end");
     assert!(rt;
@@ -94,7 +94,7 @@ fn report_ends_with_out_of_memory_at_any_refused_request(rt: HostRuntime) {
     }
     let unrefused = Refusing::new(rt.alloc(), requests.saturating_add(1));
     let _writes = assert_whole(&rt, &unrefused, &whole);
-    assert_eq!(rt; unrefused.blocks(), 0);
+    check!(rt; same(unrefused.blocks(), 0));
 }
 
 // Row 1 compares right values, and row 2 compares a wrong value. Rows 3 and 4 end with an error,
@@ -128,14 +128,11 @@ fn report_made_up(numbers: &[u32], text: &mut String, failing: usize) -> (u8, us
 fn assert_reported(rt: &impl Abort, alloc: Global, numbers: &[u32], status: u8, whole: &str) {
     let mut text = String::new(alloc);
     let (found, writes) = report_made_up(numbers, &mut text, 0);
-    assert_eq!(rt; (found, text.as_str()), (status, whole));
+    check!(rt; same((found, text.as_str()), (status, whole)));
     for failing in 1..=writes {
         let mut text = String::new(alloc);
         let answer = report_made_up(numbers, &mut text, failing);
-        assert_eq!(rt;
-            (answer, whole.starts_with(text.as_str())),
-            ((3, failing), true)
-        );
+        check!(rt; same((answer, whole.starts_with(text.as_str())), ((3, failing), true)));
     }
 }
 

@@ -129,7 +129,7 @@ fn assert_message(rt: &impl Abort, alloc: Global, answered: &Result<(), ReplayEr
         Ok(()) => String::new(alloc),
         Err(error) => check!(rt; error.to_string(alloc)),
     };
-    assert_eq!(rt; message.as_str(), told);
+    check!(rt; same(message.as_str(), told));
 }
 
 // Asserts the exit status, and that `told` alone is written to standard error, or nothing if it is
@@ -145,10 +145,7 @@ fn assert_exit(rt: &impl Abort, alloc: Global, answered: Result<(), ReplayError>
     let status = check!(rt; format!(in alloc; "{:?}", exit_code(&messages, answered)));
     let number = if told.is_empty() { 0 } else { 1 };
     let wanted = check!(rt; format!(in alloc; "ExitCode(unix_exit_status({number}))"));
-    assert_eq!(rt;
-        (status.as_str(), messages.lines.get(), messages.right.get()),
-        (wanted.as_str(), number, number)
-    );
+    check!(rt; same((status.as_str(), messages.lines.get(), messages.right.get()), (wanted.as_str(), number, number)));
 }
 
 // Replays the lines of `input` with memory from `source`. The read number `unread` and the write
@@ -196,7 +193,7 @@ fn replayed(
 // Replays the lines of `input`. Asserts what is written, and the error message.
 fn assert_replayed(rt: &impl Abort, alloc: Global, input: &[u8], wanted: &str, told: &str) {
     let text = replayed(rt, alloc, input, (0, 0), told);
-    assert_eq!(rt; text.as_str(), wanted);
+    check!(rt; same(text.as_str(), wanted));
 }
 
 #[test]
@@ -393,7 +390,7 @@ fn fails_if_a_read_fails(rt: HostRuntime) {
             (unread, 0),
             "broken pipe",
         );
-        assert_eq!(rt; text.as_str(), "");
+        check!(rt; same(text.as_str(), ""));
     }
 }
 

@@ -20,6 +20,7 @@ impl<T: Numbered + Copy, G: Growth> Calls<T, G> for Copying {
             2 => extend_from_copies_reserved(rt, case),
             3 => clone_copies(case),
             4 => from_copies(case),
+            5 => write_copies(case),
             _ => return None,
         })
     }
@@ -67,4 +68,15 @@ fn from_copies<T: Numbered + Copy, G: Growth>(case: &mut Case<T, G>) -> Answer {
     case.begin("from_copies");
     let list = ThinVec::from_copies(&case.ledger.alloc, items.as_slice())?;
     Ok(Due::block_of(list.len()))
+}
+
+fn write_copies<T: Numbered + Copy, G: Growth>(case: &mut Case<T, G>) -> Answer {
+    let length = case.list.len();
+    let items = case.items(length)?;
+    case.begin("copy_from_slice, copy_within");
+    if items.len() == case.list.len() {
+        case.list.copy_from_slice(items.as_slice());
+        case.list.copy_within(items.len() / 2.., 0);
+    }
+    Ok(Due::NOTHING)
 }
