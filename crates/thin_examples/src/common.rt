@@ -20,11 +20,11 @@ pub fn made(alloc: Global) -> Result<ThinVec<u32>, ThinVecError> {
 /// Adds items to the list. Fails if there is not enough memory.
 pub fn filled(list: &mut ThinVec<u32>, other: &mut ThinVec<u32>) -> Result<(), ThinVecError> {
     list.push(7)?; // append an item
-    list.insert(0, 8)?; // insert an item at an index, which is at most `list.len()`
+    list.insert(0, 8)?; // insert an item at an index; the index must be at most `list.len()`
     list.append(other)?; // move all items of another list
     list.extend(5..9)?; // append the items of an iterator
     list.extend_from_slice(&[1, 2])?; // append the items of a slice
-    list.reserve(2)?; // reserve room for two items, so that these two calls cannot fail
+    list.reserve(2)?; // reserve room for two items, so that the next two calls cannot fail
     list.push_reserved(8);
     list.push_reserved(9);
     Ok(())
