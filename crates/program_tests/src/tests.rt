@@ -1,3 +1,4 @@
+mod edits;
 mod page;
 mod report;
 mod scripts;

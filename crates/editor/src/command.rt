@@ -1,49 +1,52 @@
-//! The commands of the editor. Each line of the input is one command.
+//! The commands by which a user edits a text of lines.
 ghost use Rattle.std.specs.Prelude.{◌≡◌, OnErr, OnOk};
 
 use crate::edit_error::EditError;
 use crate::editor::Editor;
 use std::alloc::{Allocator, Global};
-use thin_vec::ThinVec;
+use thin_vec::{ThinVec, ThinVecError};
 
-/// A command of the editor. Each line of the input is parsed as one command.
+/// A command of a user, who writes each command on one line.
 #[derive(Drop)]
 pub enum Command<A: Allocator = Global> {
-    /// Replaces a range of characters. The fields are the start of the range, its exclusive end,
-    /// and the new characters.
+    /// Replaces a range of lines. The fields are the start of the range, its exclusive end, and the
+    /// new lines.
     ///
     /// The user can write this command in three ways:
     ///
-    /// - `insert AT TEXT` inserts `TEXT` at the index `AT`.
-    /// - `delete FROM TO` removes the characters `FROM..TO`.
-    /// - `replace FROM TO TEXT` replaces the characters `FROM..TO` with `TEXT`.
-    Replace(usize, usize, ThinVec<char, A>),
-    /// Undoes the last edit that has not been undone. In the input, the command is written `undo`.
+    /// - `insert AT TEXT` inserts the lines of `TEXT` before the line `AT`.
+    /// - `delete FROM TO` removes the lines `FROM..TO`.
+    /// - `replace FROM TO TEXT` replaces the lines `FROM..TO` with the lines of `TEXT`.
+    ///
+    /// Lines are counted from 0. The lines of `TEXT` are separated by `|`, so an empty `TEXT` is
+    /// one empty line.
+    Replace(usize, usize, ThinVec<String<A>, A>),
+    /// Undoes the last edit that has not been undone. The user writes `undo`.
     Undo,
-    /// Redoes the edit that was undone last. In the input, the command is written `redo`.
+    /// Redoes the edit that was undone last. The user writes `redo`.
     Redo,
     /// Forgets the oldest edits. The field is the greatest number of edits that can still be undone
-    /// after this command. In the input, the command is written `forget COUNT`.
+    /// after this command. The user writes `forget COUNT`.
     Forget(usize),
-    /// Prints the text. In the input, the command is written `print`.
+    /// Prints the text. The user writes `print`.
     Print,
 }
 
 impl<A: Allocator + Copy> Command<A> {
-    ghost use Rattle.text_editor.specs.Commands.{Does};
+    ghost use Rattle.editor.specs.Commands.{Does};
 
-    /// Parses a line of the input.
+    /// Parses `written`, a command as the user writes it.
     ///
     /// # Errors
     ///
-    /// Returns `NotACommand` if the line is not a command, and `NoRoom` if there is not enough
-    /// memory for the text in the command.
-    pub fn parse(alloc: A, line: &str) -> Result<Command<A>, EditError> {
-        let (name, rest) = first_word(line);
+    /// Returns `NotACommand` if `written` is not a command, and `NoRoom` if there is not enough
+    /// memory for the lines in the command.
+    pub fn parse(alloc: A, written: &str) -> Result<Command<A>, EditError> {
+        let (name, rest) = first_word(written);
         match name {
             "insert" => {
                 let (at, rest) = number(rest)?;
-                replacement(alloc, at, at, rest)
+                Ok(Command::Replace(at, at, lines_of(alloc, rest)?))
             }
             "delete" => {
                 let (start, rest) = number(rest)?;
@@ -53,7 +56,7 @@ impl<A: Allocator + Copy> Command<A> {
             "replace" => {
                 let (start, rest) = number(rest)?;
                 let (end, rest) = number(rest)?;
-                replacement(alloc, start, end, rest)
+                Ok(Command::Replace(start, end, lines_of(alloc, rest)?))
             }
             "undo" => Ok(Command::Undo),
             "redo" => Ok(Command::Redo),
@@ -63,18 +66,18 @@ impl<A: Allocator + Copy> Command<A> {
         }
     }
 
-    /// Runs the command on `editor`. For `Print`, this function does nothing, because `main.rt`
+    /// Runs the command on `editor`. For `Print`, this function does nothing, because the program
     /// prints the text.
     ///
     /// # Errors
     ///
     /// Fails if the edit, the undo or the redo fails. On failure, the editor is unchanged.
-    pub fn run(self, editor: &mut Editor<A>) -> Result<(), EditError>
+    pub fn run(self, editor: &mut Editor<String<A>, A>) -> Result<(), EditError>
         ensures ok { OnOk result (Does self editor.old editor.new) }
         ensures err { OnErr result (editor.new ≡ editor.old) }
     {
         match self {
-            Command::Replace(start, end, characters) => editor.replace(start, end, characters),
+            Command::Replace(start, end, lines) => editor.replace(start, end, lines),
             Command::Undo => editor.undo(),
             Command::Redo => editor.redo(),
             Command::Forget(count) => {
@@ -86,17 +89,16 @@ impl<A: Allocator + Copy> Command<A> {
     }
 }
 
-fn replacement<A: Allocator>(
+// Returns the lines of `text`, which are separated by `|`.
+fn lines_of<A: Allocator + Copy>(
     alloc: A,
-    start: usize,
-    end: usize,
     text: &str,
-) -> Result<Command<A>, EditError> {
-    let mut characters = ThinVec::new(alloc);
-    characters
-        .extend(text.chars())
-        .map_err(|refused| refused.cause)?;
-    Ok(Command::Replace(start, end, characters))
+) -> Result<ThinVec<String<A>, A>, ThinVecError> {
+    let mut lines = ThinVec::new(alloc);
+    for line in text.split('|') {
+        lines.push(String::from_str(alloc, line)?)?;
+    }
+    Ok(lines)
 }
 
 // Returns the text before the first space of `text` and the text after it. If there is no space,

@@ -3,10 +3,10 @@
 -- before it.
 use Rattle.std.proofs.Common.{◌≡◌, ℕ, ◌-◌, ap, arith, drop, length, rules, sym, take, ◌∙◌}
 use Rattle.std.proofs.lemmas.List.{take_all}
-use Rattle.text_editor.proofs.ChangesLemmas.{AllFit-drop, length-texts_of, texts_of-drop}
-use Rattle.text_editor.specs.Changes.{texts_of}
-use Rattle.text_editor.specs.History.{History}
-use Rattle.text_editor.proofs.editor.Editor.forget.Goals as goal
+use Rattle.editor.proofs.ChangesLemmas.{AllFit-drop, length-texts_of, texts_of-drop}
+use Rattle.editor.specs.Changes.{texts_of}
+use Rattle.editor.specs.History.{History}
+use Rattle.editor.proofs.editor.Editor.forget.Goals as goal
 
 pub invariant_of-self : goal.invariant_of-self
 invariant_of-self g c =
@@ -25,10 +25,10 @@ returns-then-count-len-clause-past g c =
     rw kept
     (texts_of-drop oldest past text
     ∙ (ap (λ (k : ℕ). take k (texts_of past text)) left
-    ∙ ap (λ (h : History). take c.args.count h.past) c.self.view_is))
+    ∙ ap (λ (h : History _). take c.args.count h.past) c.self.view_is))
 
 pub returns-else-count-len-clause-past : goal.returns-else-count-len-clause-past
 returns-else-count-len-clause-past g c =
     let all = length-texts_of c.self.inside.past.items c.self.inside.text.items in
-    let same = ap (λ (h : History). length h.past) c.self.view_is in
+    let same = ap (λ (h : History _). length h.past) c.self.view_is in
     sym (take_all c.args.count c.args.self.now.past (omega (arith, all, same)))

@@ -1,9 +1,9 @@
-//! The type `Editor`. An editor owns a text and two lists of changes. The changes in one list undo
-//! edits, and the changes in the other list redo edits that have been undone.
+//! The type `Editor`. An editor owns a text, which is a list of items, and two lists of changes.
+//! The changes in one list undo edits, and those in the other redo edits that have been undone.
 ghost use Rattle.std.specs.Prelude.{◌≡◌, ◌↔◌, ◌⊎◌, ◌<◌, [], ◌∷◌, IsErrOf, OnErr, OnOk, length, take};
 ghost use Rattle.std.specs.List.{replace_range};
-ghost use Rattle.text_editor.specs.Changes.{AllFit, texts_of};
-ghost use Rattle.text_editor.specs.History.{IsNew};
+ghost use Rattle.editor.specs.Changes.{AllFit, texts_of};
+ghost use Rattle.editor.specs.History.{IsNew};
 
 use crate::change::Change;
 use crate::edit_error::EditError;
@@ -11,21 +11,21 @@ use std::alloc::{Allocator, Global};
 use std::marker::Model;
 use thin_vec::{ThinVec, ThinVecError};
 
-/// A text with the history of its edits. In contracts, an editor is a `History`: the text, the
-/// texts that `undo` can restore, and the texts that `redo` can restore.
+/// A text, such as a list of lines, with the history of its edits. In contracts, an editor is a
+/// `History`: the text, the texts that `undo` can restore, and the texts that `redo` can restore.
 #[derive(Drop)]
-pub struct Editor<A: Allocator = Global> {
-    text: ThinVec<char, A>,
-    past: ThinVec<Change<A>, A>,
-    future: ThinVec<Change<A>, A>,
+pub struct Editor<T, A: Allocator = Global> {
+    text: ThinVec<T, A>,
+    past: ThinVec<Change<T, A>, A>,
+    future: ThinVec<Change<T, A>, A>,
 }
 
-impl<A: Allocator> Model for Editor<A> {
-    ghost use Rattle.text_editor.specs.History.{History};
+impl<T, A: Allocator> Model for Editor<T, A> {
+    ghost use Rattle.editor.specs.History.{History};
 
-    ghost Value = { History };
+    ghost Value = { History T };
 
-    ghost use Rattle.text_editor.specs.Changes.{AllFit, texts_of};
+    ghost use Rattle.editor.specs.Changes.{AllFit, texts_of};
 
     ghost view = { λ e. record {
       past = texts_of e.past.items e.text.items;
@@ -37,10 +37,10 @@ impl<A: Allocator> Model for Editor<A> {
         × AllFit e.future.items e.text.items };
 }
 
-impl<A: Allocator + Copy> Editor<A> {
+impl<T: Drop, A: Allocator + Copy> Editor<T, A> {
     /// Makes an editor with an empty text. There is nothing to undo and nothing to redo. The call
     /// allocates no memory.
-    pub fn new(alloc: A) -> Editor<A>
+    pub fn new(alloc: A) -> Editor<T, A>
         ensures new { IsNew result }
     {
         Editor {
@@ -50,31 +50,31 @@ impl<A: Allocator + Copy> Editor<A> {
         }
     }
 
-    /// Returns the characters of the text.
-    pub fn text(&self) -> &[char]
+    /// Returns the items of the text.
+    pub fn text(&self) -> &[T]
         ensures value { result.now ≡ self.now.text }
     {
         self.text.as_slice()
     }
 
-    /// Replaces the characters `start..end` with `characters`. Edits that were undone before the
-    /// call can no longer be redone.
+    /// Replaces the items `start..end` with `items`. Edits that were undone before the call can no
+    /// longer be redone.
     ///
     /// # Errors
     ///
     /// Returns `OutOfBounds` if `end` is less than `start` or greater than the length of the text.
     /// Returns `NoRoom` if there is not enough memory for the edit. On failure, the editor is
-    /// unchanged, and `characters` is dropped.
+    /// unchanged, and `items` is dropped.
     pub fn replace(
         &mut self,
         start: usize,
         end: usize,
-        characters: ThinVec<char, A>,
+        items: ThinVec<T, A>,
     ) -> Result<(), EditError>
         ensures out_of_bounds { IsErrOf result EditError.OutOfBounds
             ↔ ((end < start) ⊎ (length self.old.text < end)) }
         ensures text { OnOk result
-            (self.new.text ≡ replace_range self.old.text start end characters.items) }
+            (self.new.text ≡ replace_range self.old.text start end items.items) }
         ensures past { OnOk result (self.new.past ≡ self.old.text ∷ self.old.past) }
         ensures future { OnOk result (self.new.future ≡ []) }
         ensures err { OnErr result (self.new ≡ self.old) }
@@ -82,11 +82,7 @@ impl<A: Allocator + Copy> Editor<A> {
         if end < start || self.text.len() < end {
             return Err(EditError::OutOfBounds);
         }
-        let mut change = Change {
-            start,
-            end,
-            characters,
-        };
+        let mut change = Change { start, end, items };
         self.past.reserve(1)?;
         change.make(&mut self.text)?;
         self.past.push_reserved(change);
@@ -149,10 +145,10 @@ impl<A: Allocator + Copy> Editor<A> {
 
 // Applies the last change of the list `from` to `text`, and moves it to the list `to`, where it
 // undoes this. On failure, `text` and the items of both lists are unchanged.
-fn step<A: Allocator>(
-    text: &mut ThinVec<char, A>,
-    from: &mut ThinVec<Change<A>, A>,
-    to: &mut ThinVec<Change<A>, A>,
+fn step<T, A: Allocator>(
+    text: &mut ThinVec<T, A>,
+    from: &mut ThinVec<Change<T, A>, A>,
+    to: &mut ThinVec<Change<T, A>, A>,
 ) -> Result<(), ThinVecError>
     requires nonempty { 0 < length from.old.items }
     requires from_fit { AllFit from.old.items text.old.items }

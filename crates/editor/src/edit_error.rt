@@ -7,7 +7,7 @@ use thiserror::Error;
 /// unchanged.
 #[derive(Debug, Drop, Error)]
 pub enum EditError {
-    /// The line is not a command.
+    /// What the user wrote is not a command.
     #[error("not a command")]
     NotACommand,
     /// The range of the command is not within the text.
@@ -27,7 +27,7 @@ pub enum EditError {
 
 impl From<ThinVecError> for EditError {
     ghost use Rattle.std.specs.Prelude.{◌≡◌};
-    ghost use Rattle.text_editor.specs.declared.edit_error.EditError.{EditError};
+    ghost use Rattle.editor.specs.declared.edit_error.EditError.{EditError};
 
     ghost from_gives = { λ cause error. error ≡ EditError.NoRoom cause };
 

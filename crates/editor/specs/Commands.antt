@@ -1,15 +1,15 @@
 -- This file defines how each command changes the state of the editor.
-use Rattle.std.specs.Prelude.{◌≡◌, [], ◌∷◌, take}
+use Rattle.std.specs.Prelude.{◌≡◌, [], ◌∷◌, String, take}
 use Rattle.std.specs.List.{replace_range}
-use Rattle.text_editor.specs.History.{History}
-use Rattle.text_editor.specs.declared.command.Command.{Command}
-use Rattle.text_editor.specs.declared.command.Command.TheVariants.{Forget, Print, Redo, Replace, Undo}
+use Rattle.editor.specs.History.{History}
+use Rattle.editor.specs.declared.command.Command.{Command}
+use Rattle.editor.specs.declared.command.Command.TheVariants.{Forget, Print, Redo, Replace, Undo}
 
 -- `Does command old new` states that a successful run of `command` changes the state of the editor
 -- from `old` to `new`.
-abbrev pub Does : {A : Type 0} → Command A → History → History → Type 0
-Does (Replace start end characters) old new =
-    (new.text ≡ replace_range old.text start end characters.items)
+abbrev pub Does : {A : Type 0} → Command A → History (String A) → History (String A) → Type 0
+Does (Replace start end lines) old new =
+    (new.text ≡ replace_range old.text start end lines.items)
     × (new.past ≡ old.text ∷ old.past) × (new.future ≡ [])
 Does Undo old new = (old.past ≡ new.text ∷ new.past) × (new.future ≡ old.text ∷ old.future)
 Does Redo old new = (old.future ≡ new.text ∷ new.future) × (new.past ≡ old.text ∷ old.past)
