@@ -280,6 +280,7 @@ impl<V: Drop, A: Allocator> Rows<V, A> {
             (columns.entries (row_at self.old row)) (columns.entries (row_at self.new row)) }
         ensures changes { self.new ≡ slice_set self.old row (row_at self.new row) }
     {
+        prove!(row < self.rows());
         self.rows[row].retain(keep);
     }
 
