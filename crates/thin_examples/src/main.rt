@@ -3,6 +3,7 @@
 
 mod add;
 mod bytes;
+mod collect;
 mod commands;
 mod common;
 mod costs;
@@ -82,6 +83,7 @@ fn show_sifted(rt: &impl Print, alloc: Global, list: &mut ThinVec<u32>) -> io::R
 fn show_make(rt: &impl Print, alloc: Global) -> io::Result<()> {
     show_new(rt, alloc)?;
     show_collect(rt, alloc)?;
+    show_collect_two(rt, alloc)?;
     show_copy(rt, alloc)?;
     show_continued(rt, alloc)?;
     show_take_list(rt, alloc)
@@ -100,6 +102,15 @@ fn show_collect(rt: &impl Print, alloc: Global) -> io::Result<()> {
     show(rt, "halves", make::halves(alloc, &[6, 7]))?;
     let collected = make::collect_or_keep(alloc, 1_u32..4).0;
     show(rt, "collect_or_keep", collected)
+}
+
+fn show_collect_two(rt: &impl Print, alloc: Global) -> io::Result<()> {
+    show(rt, "parsed", collect::parsed(alloc, &["12", "+3"]))?;
+    show(rt, "parsed", collect::parsed(alloc, &["12", "x", "-"]))?;
+    let list = ThinVec::from_array(alloc, [1, 2, 3])?;
+    show(rt, "parted", collect::parted(alloc, list)?)?;
+    let pairs = ThinVec::from_array(alloc, [(1, 'a'), (2, 'b')])?;
+    show(rt, "unzipped", collect::unzipped(alloc, pairs)?)
 }
 
 fn show_copy(rt: &impl Print, alloc: Global) -> io::Result<()> {

@@ -4,6 +4,7 @@ mod ListBlockLemmas
 mod BoundsLemmas
 pub mod GrowthLemmas
 pub mod CallerLemmas
+pub mod CollectLemmas
 pub mod PushesLemmas
 pub mod ExtendCostLemmas
 pub mod FinishCostLemmas
