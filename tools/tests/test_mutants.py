@@ -26,6 +26,7 @@ class Mutants(ToolTest):
         shutil.rmtree(top / "crates" / "thin_rows" / "src")
         edit = top / "crates" / "thin_vec" / "must-fail" / "planted.edit"
         edit.write_text("file: src/none.rt\nold: a\nnew: b\n", encoding="utf-8")
+        (top / "docs" / "gate.toml").unlink(missing_ok=True)
         said = self.finds("mutants", "--check", top=top)
         says = "must-fail/planted.edit: there is no file crates/thin_vec/src/none.rt\n"
         self.assertIn(says, said)
