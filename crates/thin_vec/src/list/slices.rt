@@ -12,6 +12,7 @@ use crate::list::ThinVec;
 use std::alloc::{AllocError, Allocator};
 use std::cmp::Ordering;
 use std::ops::RangeBounds;
+use std::slice;
 use thin_block::Growth;
 
 impl<T, A: Allocator, G: Growth> ThinVec<T, A, G> {
@@ -331,7 +332,12 @@ impl<T, A: Allocator, G: Growth> ThinVec<T, A, G> {
         ensures changes { self.new ≡ record self.old { items = self.new.items } }
         ensures bounds_before { IsBounded T.row self.old }
     {
-        self.as_mut_slice().copy_within(src, dest);
+        let len = self.len();
+        let range = slice::range(src, ..len);
+        prove!(range.start <= range.end);
+        prove!(range.end <= len);
+        prove!(dest <= len - (range.end - range.start));
+        self.as_mut_slice().copy_within(range, dest);
     }
 
     /// Returns the items in the range `start..end` as a mutable slice.
