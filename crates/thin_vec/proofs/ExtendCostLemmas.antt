@@ -1,7 +1,7 @@
 -- These lemmas are about the capacity and the cost of a list after `extend` and `from_iter`. They
 -- are also meant for other crates.
 use Rattle.thin_block.proofs.ResultLemmas.{some-same, none-some}
-use Rattle.std.proofs.Common.{if◌then◌else◌, [], Bool, ◌≡◌, ℕ, zero, suc, ◌+◌, ◌*◌, ◌<◌, ◌≤◌, true, false, Some, ap, List, arith, eqb, inl, inr, length, refl, subst, sym, ◌∙◌, ◌-◌, ◌++◌, None, length-append}
+use Rattle.std.proofs.Common.{if◌then◌else◌, [], Bool, ◌≡◌, ℕ, suc, ◌+◌, ◌*◌, ◌<◌, ◌≤◌, true, false, Some, ap, List, arith, eqb, inl, inr, length, refl, subst, sym, ◌∙◌, ◌-◌, ◌++◌, None, length-append}
 use Rattle.std.specs.Borrow.{RattleType}
 use Rattle.std.proofs.lemmas.Bool.{cases_lt}
 use Rattle.thin_block.specs.Cost.{add_realloc, add_moves, no_cost}

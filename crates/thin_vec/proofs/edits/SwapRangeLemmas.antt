@@ -17,7 +17,6 @@ use Rattle.thin_vec.specs.List.Capacity.{CostsMoves, OverflowsIff}
 use Rattle.thin_vec.specs.OpenView.{OpenView, cost_closed, items_of}
 use Rattle.thin_vec.specs.ThinVec.{ListView, cost_after_resize}
 use Rattle.thin_vec.proofs.RetainLemmas.{moving-more, moving-none, moving-zero}
-use Rattle.thin_vec.proofs.GrowthLemmas.{cost_after_resize-same}
 
 -- In this module, the `k` items of `xs` from index `i` onward are exchanged with the first `k`
 -- items of `ys`.

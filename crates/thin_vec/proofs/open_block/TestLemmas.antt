@@ -1,6 +1,6 @@
 -- These lemmas state which items of a list are kept when a closure tests them one after the other.
 -- `R` describes the calls to the closure, and `s`, `t` and `u` are its states.
-use Rattle.std.proofs.Common.{◌≡◌, ℕ, ◌+◌, ◌≤◌, Bool, true, false, List, [], ◌∷◌, ◌++◌, length, take, drop, refl, sym, ap, subst, ◌∙◌, arith, length-append, append_assoc}
+use Rattle.std.proofs.Common.{◌≡◌, ℕ, ◌+◌, Bool, true, false, List, [], ◌∷◌, ◌++◌, length, take, drop, refl, sym, ap, ◌∙◌, arith, length-append, append_assoc}
 use Rattle.std.proofs.lemmas.Bool.{false≢true}
 use Rattle.std.proofs.lemmas.List.{append-nil, drop_at, map_push, take_at}
 use Rattle.thin_vec.specs.Edits.Retain.{TestResults, all_kept}

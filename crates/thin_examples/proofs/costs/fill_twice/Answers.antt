@@ -1,7 +1,6 @@
 -- The list is full, and gets at most as many numbers as it has. So it grows once, either for the
 -- size hint or for the first number.
 use Rattle.std.proofs.Common.{rules, ◌≡◌, ◌+◌, ◌*◌, ◌≤◌, ◌++◌, ap, arith, length, length-append}
-use denote.Param.{param}
 use Rattle.thin_vec.proofs.ExtendCostLemmas.{doubled_once}
 use Rattle.thin_examples.proofs.costs.fill_twice.Goals.{In-Ok}
 use Rattle.thin_examples.proofs.costs.fill_twice.Goals as goal

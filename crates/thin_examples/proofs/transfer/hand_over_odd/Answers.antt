@@ -1,5 +1,5 @@
 -- The closure of `hand_over_odd` tests whether a number is odd, so `filter` says what is moved.
-use Rattle.std.proofs.Common.{ℕ, ◌≡◌, ◌%◌, ◌==◌, ◌-◌, ◌++◌, Bool, ap, arith, rules, ◌∙◌}
+use Rattle.std.proofs.Common.{ℕ, ◌%◌, ◌==◌, ◌-◌, ◌++◌, Bool, ap, arith, rules, ◌∙◌}
 use Rattle.std.proofs.lemmas.List.{append-nil, drop_all, take_all}
 use Rattle.std.specs.Prelude.{filter, not}
 use Rattle.thin_vec.proofs.EditLemmas.{extracts_filter}

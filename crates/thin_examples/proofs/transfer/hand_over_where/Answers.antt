@@ -1,5 +1,5 @@
 -- The clause `walked` of `extract_if` says what the loop moved and what it left.
-use Rattle.std.proofs.Common.{◌≡◌, ◌∙◌, ◌+◌, ◌-◌, ◌++◌, [], ◌∷◌, None, Some, ap, append_assoc, arith, drop, length, refl, rules, subst, sym}
+use Rattle.std.proofs.Common.{◌∙◌, ◌-◌, ◌++◌, [], ◌∷◌, ap, append_assoc, arith, drop, length, refl, rules, subst, sym}
 use Rattle.std.proofs.iter.Next.{Yields-more}
 use Rattle.std.proofs.lemmas.List.{append-nil, length-drop, length-take-le, length_push}
 use Rattle.std.specs.Fn.{CalledAtMut}

@@ -1,5 +1,4 @@
 -- The nodes of the trees that wait become fewer: each iteration drops one.
-use Rattle.std.proofs.Common.{ℕ}
 use Rattle.std.specs.List.{sum_by}
 use Rattle.thin_examples.specs.Tree.{node_count}
 use Rattle.thin_examples.proofs.tree.Node.take_apart.Given as goal

@@ -1,12 +1,12 @@
 -- The pairs are exchanged, and then what is left of the longer run moves. Only the list that
 -- becomes longer grows.
-use Rattle.std.proofs.Common.{◌≡◌, ◌+◌, ◌-◌, ◌<◌, ◌≤◌, ◌∙◌, Some, ap, arith, inl, inr, length, refl, sym}
+use Rattle.std.proofs.Common.{◌≡◌, ◌+◌, ◌-◌, ◌<◌, ◌≤◌, ◌∙◌, ap, arith, inl, inr, length, refl, sym}
 use Rattle.std.proofs.lemmas.Bool.{cases_lt, false≢true}
 use Rattle.std.specs.List.{replace_range}
 use Rattle.std.specs.Prelude.{slice_range}
 use denote.Param.{param}
 use Rattle.thin_vec.proofs.list.ReservesLemmas.{capacity-kept, keeps-join, keeps-kept}
-use Rattle.thin_vec.proofs.edits.SwapRangeLemmas.{cost-in, cost-out, either-first, either-ok, either-second, length-in, length-out, paid-if, size-in, size-out, swapped-in, swapped-out}
+use Rattle.thin_vec.proofs.edits.SwapRangeLemmas.{cost-in, cost-out, either-first, length-in, length-out, paid-if, size-in, size-out, swapped-in, swapped-out}
 use Rattle.thin_vec.proofs.list.ThinVec.swap_range.Goals.{After-move_range_to-2}
 use Rattle.thin_vec.proofs.list.ThinVec.swap_range.Goals as goal
 

@@ -1,6 +1,6 @@
 -- If there is a middle item, then `seek` tests it.
 use Rattle.std.proofs.Common.{◌∙◌, arith, refl, sym}
-use Rattle.std.proofs.lemmas.List.{append-nil, nil_from_length}
+use Rattle.std.proofs.lemmas.List.{append-nil}
 use Rattle.std.specs.Prelude.{◌==◌}
 use Rattle.thin_vec.proofs.RetainLemmas.{moving-zero}
 use Rattle.thin_vec.proofs.open_block.RetainMiddleLemmas.{sought}
