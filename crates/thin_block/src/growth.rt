@@ -16,7 +16,7 @@ pub trait Growth {
     ghost rule: { ℕ → ℕ → ℕ → ℕ → Option ℕ };
 
     /// Returns the capacity to which a list of capacity `cap` grows in order to hold `want` items.
-    /// Returns `None` if that capacity is too large.
+    /// Returns `None` if the rule has no such capacity, for example because it would be too large.
     fn next_capacity<T>(cap: usize, want: usize) -> Option<usize>
         requires { cap < want }
         ensures value { result ≡ rule (type_size T.row) (type_align T.row) cap want };
