@@ -38,15 +38,20 @@ fn carry_out<A: Allocator + Copy>(
     Command::parse(alloc, written)?.run(editor)
 }
 
-// Carries out the commands in an editor that uses `alloc`, and in a twin that uses `granting` and
-// never lacks memory. The twin leaves out a command for which the editor lacks memory. So that
-// command has changed nothing if the answers to the later commands and the texts are the same.
+// Carries out the commands in an editor that uses `alloc`, whose request number `nth` is refused,
+// and in a twin that uses `granting` and never lacks memory. One command lacks memory, or none if
+// `nth` is 0. The twin leaves out that command. So it has changed nothing if the answers to the
+// later commands and the texts are the same.
 fn carry_out_all<A: Allocator + Copy>(rt: &impl Abort, alloc: A, granting: A, nth: u64) {
     let mut editor = Editor::new(alloc);
     let mut twin = Editor::new(granting);
+    let mut was_refused = false;
     for written in &COMMANDS {
         let answer = carry_out(alloc, &mut editor, written);
-        if !matches!(&answer, Err(EditError::NoRoom(_))) {
+        if matches!(&answer, Err(EditError::NoRoom(_))) {
+            assert!(rt; nth > 0 && !was_refused, "`{written}` at request {nth}");
+            was_refused = true;
+        } else {
             let due = carry_out(granting, &mut twin, written);
             assert_eq!(rt; answer.is_ok(), due.is_ok(), "`{written}` at request {nth}");
         }
@@ -55,6 +60,7 @@ fn carry_out_all<A: Allocator + Copy>(rt: &impl Abort, alloc: A, granting: A, nt
             "`{written}` at request {nth}"
         );
     }
+    assert_eq!(rt; was_refused, nth > 0);
 }
 
 // Refuses request number `nth` of an editor. Returns the number of requests.
