@@ -7,7 +7,7 @@ use std::alloc::Allocator;
 use std::io;
 use thin_vec::{ThinVec, ThinVecError, thin_vec};
 
-/// Returns the list 3, 4, 5. Fails if the allocator has no memory.
+/// Returns the list 3, 4, 5. Fails if the allocator is out of memory.
 fn first_list<A: Allocator>(alloc: A) -> Result<ThinVec<u32, A>, ThinVecError>
     ensures three_items { IfOk result (λ list. list.items ≡ 3 ∷ 4 ∷ 5 ∷ []) }
 {

@@ -9,23 +9,23 @@ pub fn made(alloc: Global) -> Result<ThinVec<u32>, ThinVecError> {
     let mut zeros = thin_vec![alloc => 0; 3]?; // three zeros
     let mut pair = ThinVec::from_array(alloc, [3, 4])?; // from an array
     let mut range = (5..8).collect::<ThinVec<_>>(alloc)?; // from an iterator
-    let mut all = ThinVec::new(alloc); // an empty list
-    all.append(&mut list)?;
-    all.append(&mut zeros)?;
-    all.append(&mut pair)?;
-    all.append(&mut range)?;
-    Ok(all)
+    let mut numbers = ThinVec::new(alloc); // an empty list
+    numbers.append(&mut list)?;
+    numbers.append(&mut zeros)?;
+    numbers.append(&mut pair)?;
+    numbers.append(&mut range)?;
+    Ok(numbers)
 }
 
 /// Adds items to the list. Fails if there is not enough memory.
 pub fn filled(list: &mut ThinVec<u32>, other: &mut ThinVec<u32>) -> Result<(), ThinVecError> {
     list.push(7)?; // append an item
     list.insert(0, 8)?; // insert an item at an index; the index must be at most `list.len()`
-    list.append(other)?; // move all items of another list
+    list.append(other)?; // move all items of `other` to the end of `list`
     list.extend(5..9)?; // append the items of an iterator
     list.extend_from_slice(&[1, 2])?; // append the items of a slice
-    list.reserve(2)?; // reserve room for two items, so that the next two calls cannot fail
-    list.push_reserved(8);
+    list.reserve(2)?; // reserve room for two more items
+    list.push_reserved(8); // append an item; requires that there is room, and cannot fail
     list.push_reserved(9);
     Ok(())
 }
@@ -37,7 +37,7 @@ pub fn replaced(alloc: Global, list: &mut ThinVec<u32>) -> Result<(), ThinVecErr
         list.splice(1, 3, 20..23).finish(alloc)?; // replace two items by 20, 21, 22
     }
     if list.len() >= 3 {
-        list.drain(1, 3); // remove the second and the third item
+        list.drain(1, 3); // remove the second and third items
     }
     if list.len() > 0 {
         let _first = list.remove(0); // remove and return the first item
@@ -48,9 +48,9 @@ pub fn replaced(alloc: Global, list: &mut ThinVec<u32>) -> Result<(), ThinVecErr
 
 /// Sorts the list, removes items, and returns the odd ones. Fails if there is no memory for them.
 pub fn sifted(alloc: Global, list: &mut ThinVec<u32>) -> Result<ThinVec<u32>, ThinVecError> {
-    list.sort_unstable(); // sort; equal items may change places
+    list.sort_unstable(); // sort; equal items may be reordered
     list.dedup(); // remove each item that equals the one before it
-    list.retain(|x| *x < 22); // keep the items that pass a test
+    list.retain(|x| *x < 22); // keep only the items that are less than 22
     let mut odd = ThinVec::new(alloc);
     let len = list.len();
     odd.extend(list.extract_if(0, len, |x: &mut u32| *x % 2 == 1))?; // move the odd items to `odd`
