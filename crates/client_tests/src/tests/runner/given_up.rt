@@ -1,7 +1,7 @@
 //! Tests of `Drain`, `ExtractIf` and `Splice` that are given up or finished after each number of
 //! steps, in each order of ends, one step past the range among them.
-use crate::tests::judges::Digits;
-use crate::tests::made::{Asked, Item, List, Told, assert_clean, is_one, room, steps};
+use crate::tests::runner::judges::Digits;
+use crate::tests::runner::made::{Asked, Item, List, Told, assert_clean, is_one, room, steps};
 use std::alloc::Global;
 use std::process::Abort;
 use thin_runner::command::{Command, Reply};

@@ -2,7 +2,12 @@
 //! each number of steps over a range. Tables in the tests state the replies as texts. `runs` has
 //! long lists, long runs, and several item types and growth rules, for which the list itself says
 //! what is right. `twins` makes the same calls on a list and on a vector.
-#![tactic(auto)]
-
-#[cfg(test)]
-mod tests;
+mod commands;
+mod given_up;
+pub mod judges;
+pub mod made;
+mod requests;
+mod runs;
+mod shown;
+mod twins;
+mod worked;

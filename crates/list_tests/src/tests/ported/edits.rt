@@ -1,5 +1,5 @@
 //! `drain`, `splice`, and the calls that test items.
-use crate::tests::boxes_of;
+use crate::tests::ported::boxes_of;
 use std::alloc::{Allocator, Global};
 use std::fmt::Debug;
 use std::iter::empty;

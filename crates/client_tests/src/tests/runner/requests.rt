@@ -1,6 +1,6 @@
 //! Tests of `run` and `step`: `run` makes no request for replies for which there is room, and a
 //! reply uses the allocator that was passed.
-use crate::tests::judges::Digits;
+use crate::tests::runner::judges::Digits;
 use std::alloc::Allocator;
 use std::process::Abort;
 use thin_runner::command::{Command, Reply, Step};

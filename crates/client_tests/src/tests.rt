@@ -1,4 +1,6 @@
 mod edits;
 mod page;
 mod report;
+mod rows;
+mod runner;
 mod scripts;

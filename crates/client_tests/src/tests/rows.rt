@@ -1,5 +1,12 @@
-//! Asserts which rows and entries a table has. Most methods ask for a row that is there.
+//! Tests of `Rows`, and functions that they share, which assert which rows and entries a table has.
+//! Most methods ask for a row that is there.
 ghost use Rattle.std.specs.Prelude.{◌<◌, ◌≡◌, length};
+
+mod drops;
+mod entries;
+mod requests;
+mod texts;
+mod walks;
 
 use std::alloc::Allocator;
 use std::fmt::Debug;

@@ -1,9 +1,9 @@
 //! Tests of one run of six commands, and of the commands that ask a judge.
-use crate::tests::judges::{Digits, Evens, TURNS};
-use crate::tests::made::{
+use crate::tests::runner::judges::{Digits, Evens, TURNS};
+use crate::tests::runner::made::{
     Asked, Item, List, Told, assert_clean, items, list_from, put, room, run_all, run_single, steps,
 };
-use crate::tests::shown::{list_text, reply_text};
+use crate::tests::runner::shown::{list_text, reply_text};
 use std::process::Abort;
 use thin_runner::command::Command;
 use thin_runner::judge::Judge;

@@ -1,5 +1,5 @@
 //! The items after each call.
-use crate::tests::boxes_of;
+use crate::tests::ported::boxes_of;
 use thin_testing::{check, holds, list_of, same, same_items};
 use thin_vec::ThinVec;
 

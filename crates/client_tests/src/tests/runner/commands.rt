@@ -1,9 +1,9 @@
 //! Tests each command with each of its requests refused in turn.
-use crate::tests::judges::Evens;
-use crate::tests::made::{
+use crate::tests::runner::judges::Evens;
+use crate::tests::runner::made::{
     Asked, Item, List, Ran, assert_clean, items, list_from, room, run_single, steps,
 };
-use crate::tests::shown::{command_text, list_text, reply_text};
+use crate::tests::runner::shown::{command_text, list_text, reply_text};
 use std::alloc::{AllocError, Global};
 use std::process::Abort;
 use thin_runner::command::{Command, Reply};

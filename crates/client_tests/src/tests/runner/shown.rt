@@ -1,5 +1,5 @@
 //! Prints replies, commands and lists.
-use crate::tests::made::{Asked, Item, List, Told};
+use crate::tests::runner::made::{Asked, Item, List, Told};
 use std::alloc::{AllocError, Global};
 use thin_runner::command::{Command, Reply, Step};
 

@@ -1,8 +1,8 @@
 //! Commands on long lists, on lists of several item types and under several growth rules, with
 //! requests refused. As in `thin_vec_sweep`, the list itself says what is right. Also runs of
 //! thousands of commands.
-use crate::tests::judges::{Digits, TURNS};
-use crate::tests::made::{Ran, assert_clean, room, run_single, steps};
+use crate::tests::runner::judges::{Digits, TURNS};
+use crate::tests::runner::made::{Ran, assert_clean, room, run_single, steps};
 use std::process::Abort;
 use thin_runner::command::{Command, Reply};
 use thin_runner::runner::run;

@@ -1,6 +1,0 @@
-mod drops;
-mod entries;
-mod requests;
-mod rows;
-mod texts;
-mod walks;
