@@ -1,5 +1,5 @@
 //! Examples that add items to a list.
-ghost use Rattle.std.specs.Prelude.{◌≡◌, ◌+◌, ◌*◌, ◌<◌, ◌≤◌, ◌++◌, [], ◌∷◌, IfErr, IfNone, IfOk, IfSome, IsErrOf, IsNone, IsOk, IsTrue, None, OnErr, OnOk, OnSome, filter, length, map, max, min, nat_lt, take};
+ghost use Rattle.std.specs.Prelude.{◌≡◌, ◌+◌, ◌*◌, ◌<◌, ◌≤◌, ◌++◌, [], ◌∷◌, IfErr, IfNone, IfOk, IfSome, IsErrOf, IsNone, IsOk, None, OnErr, OnOk, OnSome, length, map, max, min, take};
 ghost use Rattle.thin_vec.specs.ThinVec.{HasRoomFor, IsCauseOf, capacity_after_reserve};
 
 use std::alloc::Allocator;
@@ -111,26 +111,6 @@ pub fn append_doubled<A: Allocator, G: Growth>(
         list.push_reserved(2 * u64::from(*number));
     }
     Ok(())
-}
-
-/// Appends the items of `numbers` that are less than `limit`. Returns whether there was room for
-/// all of them. In either case, `list` keeps its old items.
-pub fn extend_below<A: Allocator, G: Growth>(
-    list: &mut ThinVec<u32, A, G>,
-    numbers: &[u32],
-    limit: u32,
-) -> bool
-    ensures succeeds { length list.old.items + length numbers.now ≤ list.old.capacity
-        → IsTrue result }
-    ensures succeeds_empty { length numbers.now ≡ 0 → IsTrue result }
-    ensures items { IsTrue result → list.new.items ≡ list.old.items ++ filter
-        (λ number. nat_lt number limit) numbers.now }
-    ensures kept { take (length list.old.items) list.new.items ≡ list.old.items }
-{
-    match list.extend(numbers.iter().copied().filter(|number| *number < limit)) {
-        Ok(()) => true,
-        Err(_refused) => false,
-    }
 }
 
 /// Appends the items of `numbers`, and returns how many were appended, also if there was no room

