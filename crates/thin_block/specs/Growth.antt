@@ -62,7 +62,7 @@ pub record FillsPowerOfTwo (s a c : ℕ) : Type 0 where
 
 -- `grown_capacity rule s a c want` is the capacity of a block for items of size `s` and alignment
 -- `a` after reserving room for `want` items in total under the growth rule `rule`. The old capacity
--- is `c`. If the new capacity would be too large, the result is `None`.
+-- is `c`. If the rule chooses no capacity, the result is `None`.
 unfoldable pub grown_capacity : GrowthRule → ℕ → ℕ → ℕ → ℕ → Option ℕ
 grown_capacity rule s a c want = if nat_le want c then Some c else
     (if nat_lt want (2 ^ 64) then rule s a c want else None)

@@ -12,7 +12,8 @@ use thiserror::Error;
 /// The reason why a call to a method of a list failed.
 #[derive(Debug, Clone, Copy, PartialEq, Eq, Error)]
 pub enum ThinVecError {
-    /// The required capacity is too large. No memory was requested for it.
+    /// The growth rule chooses no capacity, or an exact capacity is too large. No memory was
+    /// requested for it.
     #[error("capacity overflow")]
     CapacityOverflow,
     /// The allocator failed, or an item could not be cloned.

@@ -99,6 +99,28 @@ module _ (rule : GrowthRule) (R : RattleType) where
               ∙ growth-same (length v.items + k) v.capacity v.capacity v.cost refl)));
         }
 
+-- A growth makes at most one request.
+growth-blocks : (n c d : ℕ) (cost : Cost) → (cost_after_growth n c d cost).blocks ≤ cost.blocks + 1
+growth-blocks n c d cost = go (eqb d c)
+  where
+    go : (b : Bool) → (if b then cost else add_realloc n cost).blocks ≤ cost.blocks + 1
+    go true = omega arith
+    go false = omega arith
+
+-- Before a tail, `finish` makes at most two requests for the list.
+pub spliced-blocks : {T A : Type 0} (rule : GrowthRule) (R : RattleType) (k t : ℕ)
+    (v : ListView T A) (h : ℕ) (w : ListView T A) (left : Count)
+    → IsAfterSplice rule R k t v h w left → w.cost.blocks ≤ v.cost.blocks + 2
+spliced-blocks rule R k t v h w left p =
+    let first = cost_after_growth (length v.items + k) v.capacity p.reserved v.cost in
+    let all = cost_after_growth (length v.items + k + h) p.reserved w.capacity first in
+    let blocks : w.cost.blocks ≡ all.blocks = ap (λ x. x.blocks) p.cost in
+    omega (
+      arith,
+      growth-blocks (length v.items + k) v.capacity p.reserved v.cost,
+      growth-blocks (length v.items + k + h) p.reserved w.capacity first,
+    )
+
 module _ (rule : GrowthRule) (R : RattleType) (law : IsLawful rule) where
   -- `GrowthCosts n c d q r` bounds the cost `r` after a block with `n` items changed its capacity
   -- from `c` to `d`. The cost before was `q`.
@@ -197,6 +219,17 @@ module _ (rule : GrowthRule) (R : RattleType) (law : IsLawful rule) where
                 | inr within ↦ (k + h, within, p.reserves ∙ ap Some (sym same))
               ])
         ]
+
+    -- If the new items fit into the range, and nothing was reserved, the capacity is kept.
+    pub spliced-kept : length v.items + k ≤ v.capacity → h ≡ 0
+        → length w.items ≤ length v.items + k → w.capacity ≡ v.capacity
+    spliced-kept room none fit =
+        let kept : p.reserved ≡ v.capacity =
+        cap-kept rule R law v (k + h) p.reserved (omega (arith, room, none)) p.reserves in
+        let same : w.capacity ≡ p.reserved =
+        some-same (sym p.capacity
+        ∙ ruled-same rule _ _ p.reserved (length w.items) (omega (arith, room, fit, kept))) in
+        same ∙ kept
 
     -- The bounds on the cost of `finish` before a tail follow from its exact cost.
     pub spliced-costs : length v.items + k ≤ v.capacity → length v.items ≤ length w.items

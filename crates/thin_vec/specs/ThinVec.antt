@@ -97,9 +97,9 @@ module _ {T A : Type 0} where
   abbrev pub cost_shrunk : ListView T A → Cost
   cost_shrunk v = cost_after_shrink v (length v.items)
 
--- `named` is the capacity that a failed call needed, or `None` if that capacity is too large.
--- `IsCauseOf named cause` states that the error `cause` can be `CapacityOverflow` only if `named`
--- is `None`.
+-- `named` is the capacity that the growth rule chooses for a failed call, or `None` if it chooses
+-- none. `IsCauseOf named cause` states that the error `cause` can be `CapacityOverflow` only if
+-- `named` is `None`.
 abbrev pub IsCauseOf : Option ℕ → ThinVecError → Type 0
 IsCauseOf named cause = cause ≡ CapacityOverflow → named ≡ None
 

@@ -66,10 +66,13 @@ module _ {T A : Type 0} where
         ≡ Some w.capacity
     -- The last `t` items move once if slots were reserved, and once more unless the new items fill
     -- exactly the slots of the range and these slots.
-    pub cost : w.cost ≡ add_moves (length w.items - length v.items + (if h == 0 then 0 else t)
-        + (if length w.items == length v.items + k + h then 0 else t))
-        (cost_after_growth (length v.items + k + h) reserved w.capacity
-        (cost_after_growth (length v.items + k) v.capacity reserved v.cost))
+    pub cost :
+        let inserted = length w.items - length v.items in
+        let once = if h == 0 then 0 else t in
+        let again = if length w.items == length v.items + k + h then 0 else t in
+        let first = cost_after_growth (length v.items + k) v.capacity reserved v.cost in
+        let second = cost_after_growth (length v.items + k + h) reserved w.capacity first in
+        w.cost ≡ add_moves (inserted + once + again) second
 
   -- `IsSpliceCause rule R w tail limit error` states why a call to `finish` failed with `error`.
   -- The growth rule is `rule`, the item type is `R`, the list after the call is `w`, and the items

@@ -21,8 +21,9 @@ map_cause (Ok x) = Ok x
 map_cause (Err e) = Err e.cause
 
 -- `OverflowsIff wanted r` states that the result `r` is the error `CapacityOverflow` if and only
--- if `wanted` is `None`. The option `wanted` is the capacity that the call needs, or `None` if it
--- is too large.
+-- if `wanted` is `None`. The option `wanted` is the capacity that the growth rule chooses, or
+-- `None` if it chooses none. (For a call that asks for an exact capacity, it is this capacity, or
+-- `None` if a block of this capacity would be too large.)
 pub record OverflowsIff {X : Type 0} (wanted : Option ℕ) (r : Result X ThinVecError) : Type 0
   where
     pub overflow : IsErrOf r CapacityOverflow ↔ (wanted ≡ None)

@@ -66,8 +66,8 @@ pub record FailsAtClone {T : Type 0} (infallible : T → Type 0) (sources : List
 
 -- `LeftByFailedClone wanted infallible sources v w` describes a call that reserved room in the list
 -- `v`, cloned items of `sources` in order until a clone failed, and dropped the clones again. It
--- left the list `w`. The option `wanted` is the capacity that reserving chooses, or `None` if it is
--- too large. `infallible x` states that cloning `x` cannot fail.
+-- left the list `w`. The option `wanted` is the capacity that the growth rule chooses, or `None` if
+-- it chooses none. `infallible x` states that cloning `x` cannot fail.
 pub record LeftByFailedClone {T A : Type 0} (wanted : Option ℕ) (infallible : T → Type 0)
     (sources : List T) (v w : ListView T A) : Type 0 where
   pub items : w.items ≡ v.items

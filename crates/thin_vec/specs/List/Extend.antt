@@ -31,8 +31,8 @@ pub record YieldsAndCanContinue {S X : Type 0} (steps : S → Option X → S →
 
 -- `capacity_after_pushes rule R c n` is the capacity of a list that had the capacity `c`, after
 -- items of the type `R` were pushed one by one until its length was `n`. Only a push onto a full
--- list changes the capacity: the growth rule `rule` chooses it for one item more. It is `None` if a
--- capacity on the way would be too large.
+-- list changes the capacity: the growth rule `rule` chooses it for one item more. It is `None` if
+-- the rule chooses none for a push.
 unfoldable pub capacity_after_pushes : GrowthRule → RattleType → ℕ → ℕ → Option ℕ
 capacity_after_pushes rule R c zero = Some c
 capacity_after_pushes rule R c (suc n) =

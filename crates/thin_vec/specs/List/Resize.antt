@@ -7,8 +7,8 @@ use Rattle.thin_vec.specs.ThinVec.{ListView}
 
 -- `LeftByFailedMake wanted step make error v w` describes a call that reserved room in the list
 -- `v`, and appended what the closure `make` returned, until it returned the error `error`. The call
--- left the list `w`. The option `wanted` is the capacity that reserving chooses, or `None` if it is
--- too large. `step f r g` states that a call of the closure `f` may return `r` and leave `g`.
+-- left the list `w`. The option `wanted` is the capacity that the growth rule chooses, or `None` if
+-- it chooses none. `step f r g` states that a call of the closure `f` may return `r` and leave `g`.
 pub record LeftByFailedMake {T A F E : Type 0} (wanted : Option ℕ)
     (step : F → Result T E → F → Type 0) (make : F) (error : E) (v w : ListView T A) : Type 0 where
   pub made : List T

@@ -76,6 +76,8 @@ impl<T: Drop, A: Allocator, G: Growth> ThinVec<T, A, G> {
         // The same, and how many items are moved: each kept item that follows a removed one, once
         // (`moves_of_retain`). Nothing is requested or copied. The clauses above and
         // `moves_at_most` follow from it.
+        // (In `deduped.removed`, the first flag is that of the second item. A flag is true if the
+        // item was removed, because its key equals that of the last kept item.)
         ensures deduped { IsDedupedBy (ComparesKeys F.FnMut K.eq) key self.old self.new }
         ensures moves_at_most { MovesAtMost (length self.new.items) self.old.cost
             self.new.cost }

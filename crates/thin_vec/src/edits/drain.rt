@@ -82,8 +82,10 @@ impl<T: Drop, A: Allocator, G: Growth> ThinVec<T, A, G> {
         // Which list is borrowed.
         ensures same_reference { drain_lender result ≡ self.entry.ghost_name }
 
-        // These follow from the contracts of `next` and `next_back`: which items calls to them
-        // yield, and what calls to `next` leave unchanged.
+        // A call of `next` (`DrainSteps`) yields the first of the remaining items, and a call of
+        // `next_back` (`DrainStepsBack`) the last. Neither changes the list, nor what the drop
+        // leaves. From this follows which items any number of calls yield, and what calls of `next`
+        // leave unchanged.
         ensures runs { DrainYieldsInOrder result }
         ensures runs_back { DrainYieldsInReverse result }
         ensures next_keeps { DrainKeepsAlong result }

@@ -122,7 +122,8 @@ impl<T: Drop, A: Allocator, G: Growth> ThinVec<T, A, G> {
         requires start_le_end { start ≤ end }
         requires in_bounds { end ≤ length self.old.items }
 
-        // What the `ExtractIf` owns.
+        // What the `ExtractIf` owns. Most callers need only `walked`, which follows from this and
+        // the contract of `next`, and stands at the end.
         ensures front { (extract_block result).front ≡ take start self.old.items }
         ensures rest { extract_rest result ≡ slice_range self.old.items start end }
         ensures tail { (extract_block result).tail ≡ drop end self.old.items }
@@ -141,8 +142,10 @@ impl<T: Drop, A: Allocator, G: Growth> ThinVec<T, A, G> {
         ensures same_reference { extract_lender result ≡ self.entry.ghost_name }
 
         // These follow from the contract of `next`: what calls to it leave as long as they yield
-        // items, and once one returns `None`. `walked` says of the list what `walk` says of the
-        // `ExtractIf`.
+        // items (`next_keeps`), and once one returns `None` (`walk`). `walked` says the latter of
+        // the list: each item of the range was tested once, in order. The closure returned true for
+        // the items that were yielded. Those for which it returned false are in the place of the
+        // range.
         ensures next_keeps { ExtractKeepsAlong (CalledAtMut F.FnMut) result }
         ensures walk { ExtractsToEnd (CalledAtMut F.FnMut) result }
         ensures walked { ExtractsRange (CalledAtMut F.FnMut) pick self.old start end result }

@@ -18,7 +18,7 @@ impl<T: Clone, A: Allocator, G: Growth> ThinVec<T, A, G> {
     ///
     /// # Errors
     ///
-    /// - `CapacityOverflow`: the new capacity would be too large. (If the clones cannot be made,
+    /// - `CapacityOverflow`: the growth rule chooses no capacity. (If the clones cannot be made,
     ///   the cause is `OutOfMemory` even then.)
     /// - `OutOfMemory`: an allocator failed, or an item could not be cloned.
     pub fn replace_range(
@@ -37,7 +37,8 @@ impl<T: Clone, A: Allocator, G: Growth> ThinVec<T, A, G> {
         ensures capacity { OnOk result (capacity_after_reserve G.rule T.row self.old
             (length items.now - (end - start)) ≡ Some self.new.capacity) }
         // Each new item is moved once, and so is each item after the range, unless as many items
-        // come as go. The list in which the clones are made is in no counter.
+        // come as go. The list in which the clones are made is in no counter. (Tests show that it
+        // makes one request.)
         ensures cost { OnOk result (CostsMoves
             (moves_replacing self.old start end (length items.now)) self.old self.new) }
 

@@ -54,7 +54,9 @@ impl<T, A: Allocator, G: Growth> ThinVec<T, A, G> {
         requires start_le_end { start ≤ end }
         requires in_bounds { end ≤ length self.old.items }
 
-        // What the `Splice` owns.
+        // What the `Splice` owns. The range has `end - start` slots, also those whose items `next`
+        // has yielded. The iterator is `iter`, from which no item was taken. (Tests show that it
+        // was not asked for its size hint.)
         ensures rest { splice_rest result ≡ slice_range self.old.items start end }
         ensures range { splice_range_len result ≡ end - start }
         ensures value { splice_iter result ≡ iter }
@@ -135,11 +137,12 @@ impl<
     /// their place, up to its first `None`.
     ///
     /// If no item follows the range, `finish` appends the items of the iterator as `extend` does.
-    /// Otherwise, it fills the slots of the range, and then as many new slots as the lower bound of
-    /// the size hint. It collects any further items in a vector that uses `alloc`, and then moves
-    /// them into the list. (Tests show how many slots are new, and which allocator the vector uses.
-    /// The contract says that the range and the new slots, if there are any, are no more than the
-    /// limit of the iterator.) On success, `alloc` is dropped. On failure, `held` owns it.
+    /// Otherwise, it first fills the slots of the range. Only if these are full, it asks the
+    /// iterator for its size hint, and fills as many new slots as the lower bound. It collects any
+    /// further items in a vector that uses `alloc`, and then moves them into the list. (Tests show
+    /// how many slots are new, and which allocator the vector uses. The contract says that the
+    /// range and the new slots, if there are any, are no more than the limit of the iterator.) On
+    /// success, `alloc` is dropped. On failure, `held` owns it.
     ///
     /// # Errors
     ///
@@ -160,12 +163,13 @@ impl<
         // that compare lists call this list `new`, and the list without the range `old`.
 
         // On success, the list has all items of the iterator in the place of the range.
-        ensures items { OnOk result ((xs : List T) × Drains I.next_gives (splice_iter self.entry) xs
-            × (self.exit.0.now.items
-            ≡ (splice_front self.entry ++ xs) ++ splice_tail self.entry)) }
-        ensures runs { OnOk result (WholeRun I.next_gives (splice_iter self.entry)
-            (λ p. self.exit.0.now.items
-            ≡ (splice_front self.entry ++ p.items) ++ splice_tail self.entry)) }
+        // (`runs` says the same of the run of the iterator.)
+        ensures items { let new = self.exit.0.now in
+            OnOk result ((xs : List T) × Drains I.next_gives (splice_iter self.entry) xs
+            × (new.items ≡ (splice_front self.entry ++ xs) ++ splice_tail self.entry)) }
+        ensures runs { let new = self.exit.0.now in
+            OnOk result (WholeRun I.next_gives (splice_iter self.entry)
+            (λ p. new.items ≡ (splice_front self.entry ++ p.items) ++ splice_tail self.entry)) }
 
         // It must succeed if the range has a slot for each item that the iterator could yield, or
         // if no item follows the range and the list has room. In every other case it may fail.
@@ -176,14 +180,19 @@ impl<
             (size (I.remaining (splice_iter self.entry))) → IsOk result }
 
         // On failure, the list may have some of the new items. The error has all others, in the
-        // order `held`, `in_hand`, `rest`. `cause` says what failed. If the error has no item, the
-        // list had no room for what was to be reserved (`by_hint`); if it has items only in `held`,
-        // for these (`by_held`). If it has an item in hand, the vector got no memory for this item
-        // (`by_in_hand`) or, if no item follows the range, the list had no room for it (`by_push`).
-        ensures placed { IfErr result (λ error. (xs : List T)
-            × (self.exit.0.now.items ≡ (splice_front self.entry ++ xs) ++ splice_tail self.entry)
+        // order `held`, `in_hand`, `rest`.
+        ensures placed { let new = self.exit.0.now in IfErr result (λ error. (xs : List T)
+            × (new.items ≡ (splice_front self.entry ++ xs) ++ splice_tail self.entry)
             × SpliceErrorAccountsFor I.next_gives I.can_next I.remaining
             (splice_iter self.entry) xs error) }
+        // What failed, in each of the four cases:
+        // - Neither `held` nor `in_hand` has an item: the list had no room for the number of items
+        //   that was to be reserved (`by_hint`).
+        // - Only `held` has items: the list had no room for them (`by_held`).
+        // - `in_hand` has an item, and items follow the range: the vector got no memory for the
+        //   item in hand (`by_in_hand`).
+        // - `in_hand` has an item, and none follows the range: the list had no room for the item in
+        //   hand (`by_push`).
         ensures cause { IfErr result (λ error. IsSpliceCause G.rule T.row self.exit.0.now
             (splice_tail self.entry) (I.remaining error.rest) error) }
         // If no item follows the range, no item is in `held`. With none in hand, the call took none
@@ -195,7 +204,12 @@ impl<
             splice_tail self.entry ≡ [] → IfErr result (λ error. MatchOption error.in_hand
             ((new ≡ old) × (error.rest ≡ splice_iter self.entry))
             (λ _. length new.items ≡ new.capacity)) }
-        // If items follow the range and the error has no item, the new items just fill the range.
+        // If items follow the range and the error has no item, the new items just fill the range,
+        // and the capacity is the old one.
+        ensures capacity_before_tail { let old = list_without_range self.entry in
+            let new = self.exit.0.now in
+            0 < length (splice_tail self.entry) → IfErr result (λ error. error.held.items ≡ []
+            → error.in_hand ≡ None → new.capacity ≡ old.capacity) }
         ensures in_hand_before_tail { let old = list_without_range self.entry in
             let new = self.exit.0.now in
             0 < length (splice_tail self.entry) → IfErr result (λ error. error.held.items ≡ []
@@ -227,14 +241,26 @@ impl<
             ≡ length old.items + splice_range_len self.entry + h) }
         ensures preserved { PreservesList T.row (list_without_range self.entry) self.exit.0.now }
 
-        // These follow from the clauses above. If the range has a slot for each item that the
-        // iterator could yield, each new item is moved once, and so is each item after the range,
-        // unless the new items fill the range exactly.
+        // These follow from the clauses above. Growth copies at most as many items as the capacity
+        // increases. If items follow the range, it makes at most two requests.
+        ensures copied_at_most { let old = list_without_range self.entry in
+            let new = self.exit.0.now in
+            new.cost.grown + old.capacity ≤ old.cost.grown + new.capacity }
+        ensures blocks_at_most { let old = list_without_range self.entry in
+            let new = self.exit.0.now in
+            0 < length (splice_tail self.entry) → new.cost.blocks ≤ old.cost.blocks + 2 }
+        // Each new item is moved once. Each item after the range is moved at most twice. If the
+        // range has a slot for each item that the iterator could yield, it is moved once or, if the
+        // new items fill the range exactly, not at all.
         ensures moves_within_range { let old = list_without_range self.entry in
             let new = self.exit.0.now in let inserted = length new.items - length old.items in
             size (I.remaining (splice_iter self.entry)) ≤ splice_range_len self.entry
             → new.cost ≡ add_moves (inserted + (if inserted == splice_range_len self.entry then 0
             else length (splice_tail self.entry))) old.cost }
+        ensures moves_at_end { let old = list_without_range self.entry in
+            let new = self.exit.0.now in
+            splice_tail self.entry ≡ []
+            → new.cost.moves + length old.items ≡ old.cost.moves + length new.items }
         ensures moves_at_most { let old = list_without_range self.entry in
             let new = self.exit.0.now in
             new.cost.moves + length old.items

@@ -21,9 +21,9 @@ impl<T: Clone, A: Allocator, G: Growth> ThinVec<T, A, G> {
     ///
     /// Fails if the list has to grow and cannot, with the causes of `reserve`. Also fails with
     /// `OutOfMemory` if an item cannot be cloned. In this case, all clones are dropped, and the
-    /// list keeps its old items and its new capacity.
+    /// list keeps its old items and its new capacity. (Tests show that it keeps the new capacity.)
     pub fn extend_from_slice(&mut self, items: &[T]) -> Result<(), ThinVecError>
-        // On success.
+        // On success: the old items, followed by a clone of each item of `items`.
         ensures items { OnOk result
             (AppendsClones T.is_clone self.old.items self.new.items items.now) }
         ensures capacity { OnOk result (capacity_after_reserve G.rule T.row self.old
@@ -35,9 +35,10 @@ impl<T: Clone, A: Allocator, G: Growth> ThinVec<T, A, G> {
             → IsOk result }
 
         // On failure. The first three clauses follow from `err` and `overflow`, and are what most
-        // callers need. `err`: either the list had no room, and nothing changed, or the clone of
-        // the item `at` failed. Then the capacity is that of a success, and the cost includes one
-        // move for each of the `at` clones that were made.
+        // callers need. `err` distinguishes two cases. In the first, the list had no room, and
+        // nothing changed. In the second, a clone failed: the field `at` is the index of its item.
+        // Then the capacity is that of a success, and the cost includes one move for each of the
+        // `at` clones that were made before.
         ensures err_items { OnErr result (self.new.items ≡ self.old.items) }
         ensures err_overflow { IsErrOf result ThinVecError.CapacityOverflow
             → self.new ≡ self.old }
@@ -132,7 +133,7 @@ impl<T: Clone, A: Allocator, G: Growth> ThinVec<T, A, G> {
     pub fn extend_from_slice_reserved(&mut self, items: &[T]) -> Result<(), ThinVecError>
         requires room { HasRoomFor self.old (length items.now) }
 
-        // On success.
+        // On success: the old items, followed by a clone of each item of `items`.
         ensures items { OnOk result
             (AppendsClones T.is_clone self.old.items self.new.items items.now) }
         ensures cost { OnOk result (self.new.cost ≡ add_moves (length items.now) self.old.cost) }
@@ -206,9 +207,10 @@ impl<T: Clone, A: Allocator, G: Growth> ThinVec<T, A, G> {
             → All T.is_infallible (slice_range self.old.items start end) → IsOk result }
 
         // On failure. The first three clauses follow from `err` and `overflow`, and are what most
-        // callers need. `err`: either the list had no room, and nothing changed, or the clone of
-        // the item `at` failed. Then the capacity is that of a success, and the cost includes one
-        // move for each of the `at` clones that were made.
+        // callers need. `err` distinguishes two cases. In the first, the list had no room, and
+        // nothing changed. In the second, a clone failed: the field `at` is the index of its item.
+        // Then the capacity is that of a success, and the cost includes one move for each of the
+        // `at` clones that were made before.
         ensures err_items { OnErr result (self.new.items ≡ self.old.items) }
         ensures err_overflow { IsErrOf result ThinVecError.CapacityOverflow
             → self.new ≡ self.old }

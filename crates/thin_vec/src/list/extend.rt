@@ -169,7 +169,9 @@ impl<T, A: Allocator> ThinVec<T, A> {
     /// Makes a list of the items that `iter` yields before its first `None`, like `extend`. The
     /// list owns `alloc`. The contract of `iter` has to say that `next` may be called, and how many
     /// items come at most: this number is its limit. The call begins with a capacity of exactly the
-    /// lower bound of the size hint, which tests show, as for `extend`.
+    /// lower bound of the size hint, which tests show, as for `extend`. `collect` makes a list in
+    /// the same way, but its contract, which is that of the trait `FromIterator`, says nothing of a
+    /// failure or of the allocator.
     ///
     /// # Errors
     ///
@@ -213,6 +215,9 @@ impl<T, A: Allocator> ThinVec<T, A> {
             ((h : ℕ) × IsWithinCount h (I.remaining error.rest)
             × FailsToAllocate T.row h error.cause)
             (λ _. FailsForRoom doubling T.row error.list 1 error.cause)) }
+
+        // This follows from `new`: each item is moved once.
+        ensures moves { IfOk result (λ list. list.cost.moves ≡ length list.items) }
     {
         let mut list = ThinVec::new(alloc);
         match list.reserve_exact(iter.size_hint().0) {

@@ -36,7 +36,8 @@ impl<T, A: Allocator, G: Growth> ThinVec<T, A, G> {
         // On failure: nothing changes.
         ensures err { OnErr result (self.new ≡ self.old) }
 
-        // In every case. Equal items keep their order (`stable`).
+        // In every case. Equal items keep their order (`stable`). Sorting writes through
+        // references, which no counter counts, so the counters stay as they are (`changes`).
         ensures permutation { IsPermutation self.old.items self.new.items }
         ensures stable { IsStable T.cmp self.old.items self.new.items }
         ensures changes { self.new ≡ record self.old { items = self.new.items } }
@@ -168,15 +169,16 @@ impl<T, A: Allocator, G: Growth> ThinVec<T, A, G> {
         self.as_mut_slice().sort_unstable();
     }
 
-    /// Sorts the items in the order of `compare` without requesting memory. Ties may change places.
-    /// If the answers of `compare` do not form a strict weak order on all values of the type, the
-    /// items end up in some order. It has to be possible to call `compare` with any two values of
-    /// the type.
+    /// Sorts the items in the order of `compare` without requesting memory, which tests show. Ties
+    /// may change places. If the answers of `compare` do not form a strict weak order on all values
+    /// of the type, the items end up in some order. It has to be possible to call `compare` with
+    /// any two values of the type.
     pub fn sort_unstable_by<F: FnMut(&T, &T) -> Ordering>(&mut self, compare: F)
         requires callable { F.IsAlwaysCallable compare }
         // If `compare` answers by a strict weak order, the items are sorted by it.
         ensures sorted { IsSortedByClosure F.FnMut compare self.new.items }
         ensures permutation { IsPermutation self.old.items self.new.items }
+        // Sorting writes through references, which no counter counts, so the counters stay.
         ensures changes { self.new ≡ record self.old { items = self.new.items } }
         ensures bounds_before { IsBounded T.row self.old }
 

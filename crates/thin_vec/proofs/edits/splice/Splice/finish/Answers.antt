@@ -1,15 +1,22 @@
 -- `finish` drops the rest of the range, and then calls `finish_before_tail` or `finish_at_end`.
-use Rattle.std.proofs.Common.{[], ◌≡◌, ◌+◌, ◌≤◌, ◌++◌, ◌∙◌, ap, arith, length, length-append, subst}
+use Rattle.std.proofs.Common.{Err, None, Ok, [], ◌≡◌, ◌+◌, ◌<◌, ◌≤◌, ◌++◌, ◌∙◌, ap, arith, length, length-append, subst}
+use Rattle.std.specs.Prelude.{IfErr, OnErr, Result}
 use denote.Param.{param}
 use Rattle.thin_vec.specs.Edits.Finish.{FinishesSplice}
 use Rattle.thin_vec.specs.OpenView.{tail_end}
 use Rattle.thin_vec.specs.Edits.Splice.{list_without_range, splice_front, splice_iter, splice_list, splice_tail}
 use Rattle.thin_block.proofs.CapacityLemmas.{fits-less}
-use Rattle.thin_vec.proofs.FinishCostLemmas.{finished-costs}
+use Rattle.thin_vec.proofs.FinishCostLemmas.{finished-costs, spliced-blocks, spliced-kept}
 use Rattle.thin_vec.proofs.edits.FinishLemmas.{finished-moves}
 use Rattle.thin_vec.proofs.list.ExtendLemmas.{run-of-ok}
 use Rattle.thin_vec.proofs.edits.splice.Splice.finish.Goals.{else-has_tail, then-has_tail}
 use Rattle.thin_vec.proofs.edits.splice.Splice.finish.Goals as goal
+
+-- What holds on failure and what holds of the error imply a third fact of the error.
+on-err : {X E P : Type 0} {Q S : E → Type 0} (r : Result X E) → (P → (e : E) → Q e → S e)
+    → OnErr r P → IfErr r Q → IfErr r S
+on-err (Ok _) f p q = q
+on-err (Err e) f p q = f p e q
 
 pub returns : goal.returns
 unfolding list_without_range
@@ -48,6 +55,9 @@ returns g c =
       subst (λ b. tail_end b ≤ b.capacity) dropped c.has_tail.ensures.in_bounds,
       length-append v.front v.tail,
     ) in
+    let costs = finished-costs rule T (splice_tail c.args.self) _ left w
+    (g.I.Iterator.remaining s) g.met.G.Growth.law f.at_end
+    (λ some. ((f.before_tail some).0, (f.before_tail some).1)) room f.longer in
     record {
       items = f.items;
       runs = run-of-ok steps s
@@ -62,6 +72,11 @@ returns g c =
       cause = f.cause;
       held_at_end = f.held_at_end;
       in_hand_at_end = f.in_hand_at_end;
+      capacity_before_tail = λ some.
+          let after = f.before_tail some in
+          on-err r (λ full e long held none. spliced-kept rule T g.met.G.Growth.law _ _ left after.0
+          w (g.I.Iterator.remaining s) after.1 room (omega (arith, full, long held none))
+          (omega (arith, long held none))) after.2 (f.in_hand_before_tail some);
       in_hand_before_tail = f.in_hand_before_tail;
       at_end = f.at_end;
       before_tail = f.before_tail;
@@ -69,9 +84,12 @@ returns g c =
           (g.I.Iterator.remaining s) g.met.G.Growth.law f.at_end
           (λ some. ((f.before_tail some).0, (f.before_tail some).1)) f.longer within.room
           (f.taken.had_room (omega (arith, room, few))) c.requires.finite few;
-      moves_at_most = (finished-costs rule T (splice_tail c.args.self) _ left w
-          (g.I.Iterator.remaining s) g.met.G.Growth.law f.at_end
-          (λ some. ((f.before_tail some).0, (f.before_tail some).1)) room f.longer).moves;
+      copied_at_most = costs.copied;
+      blocks_at_most = λ some.
+          let after = f.before_tail some in
+          spliced-blocks rule T _ _ left after.0 w (g.I.Iterator.remaining s) after.1;
+      moves_at_end = λ none. omega (arith, ap length none, costs.least, costs.moves);
+      moves_at_most = costs.moves;
       preserved = record {
         alloc = f.taken.alloc;
         never_less = le;

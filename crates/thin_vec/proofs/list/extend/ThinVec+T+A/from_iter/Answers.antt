@@ -6,9 +6,10 @@ use Rattle.std.proofs.lemmas.Bool.{cases_lt, false≢true}
 use denote.Param.{param}
 use Rattle.thin_block.proofs.ResultLemmas.{err-same}
 use Rattle.thin_block.specs.Growth.{doubling}
+use Rattle.thin_block.specs.GrowthLaws.{doubling_law}
 use Rattle.thin_vec.proofs.list.ExtendLemmas.{exact-new, match-some, run-given, run-of}
 use Rattle.thin_vec.proofs.PushesLemmas.{after-none}
-use Rattle.thin_vec.proofs.ExtendCostLemmas.{collected-from, exact-is}
+use Rattle.thin_vec.proofs.ExtendCostLemmas.{collected-costs, collected-from, exact-is}
 use Rattle.thin_block.specs.Cost.{add_realloc}
 use Rattle.thin_vec.specs.ThinVec.{cost_after_resize, cost_of_new}
 use Rattle.thin_vec.specs.List.Extend.{IsAfterCollect, IsAfterPushes, IsCollectedList}
@@ -63,6 +64,12 @@ collected g c =
 pub returns-in-Ok-extend_unhinted-clause-new : goal.returns-in-Ok-extend_unhinted-clause-new
 returns-in-Ok-extend_unhinted-clause-new g c =
     collected g ((goal.at.returns-in-Ok-extend_unhinted-clause-new g c).After-extend_unhinted)
+
+pub returns-in-Ok-extend_unhinted-clause-moves : goal.returns-in-Ok-extend_unhinted-clause-moves
+returns-in-Ok-extend_unhinted-clause-moves g c =
+    let after = (goal.at.returns-in-Ok-extend_unhinted-clause-moves g c).After-extend_unhinted in
+    (collected-costs doubling (param 0 g.row.T) doubling_law c.extend_unhinted.new.self
+    c.size_hint.result.0 (pushed g after)).0
 
 pub returns-in-Err-extend_unhinted-clause-error_list :
     goal.returns-in-Err-extend_unhinted-clause-error_list
