@@ -61,11 +61,13 @@ module _ {T A : Type 0} where
     -- The capacity after the first step.
     pub reserved : ℕ
     pub reserves : capacity_after_reserve rule R v (k + h) ≡ Some reserved
-    -- The capacity after the second step.
+    -- The capacity after the second step. It is `reserved` if the new items fit into the range and
+    -- the `h` slots, as after a failure.
     pub capacity : grown_capacity rule (type_size R) (type_align R) reserved (length w.items)
         ≡ Some w.capacity
-    -- The last `t` items move once if slots were reserved, and once more unless the new items fill
-    -- exactly the slots of the range and these slots.
+    -- Each new item moves once. The last `t` items do not move if `h` is 0 and the new items just
+    -- fill the range. They move twice if `h` is above 0 and the new items do not just fill the
+    -- range and the `h` slots. Otherwise, they move once.
     pub cost :
         let inserted = length w.items - length v.items in
         let once = if h == 0 then 0 else t in

@@ -159,8 +159,10 @@ impl<
         requires can_next { I.can_next (splice_iter self) }
         requires finite { IsFinite (I.remaining (splice_iter self)) }
 
-        // `self.entry` is the `Splice`, and `self.exit.0.now` is the list after the call. Clauses
-        // that compare lists call this list `new`, and the list without the range `old`.
+        // `self.entry` is the `Splice`, and `self.exit.0.now` is the list after the call, which
+        // most clauses call `new`. They call the list without the range `old`. By the contract of
+        // `splice`, and whatever was yielded, `splice_front` has the items before the range, and
+        // `splice_tail` those after it.
 
         // On success, the list has all items of the iterator in the place of the range.
         // (`runs` says the same of the run of the iterator.)
@@ -180,7 +182,13 @@ impl<
             (size (I.remaining (splice_iter self.entry))) → IsOk result }
 
         // On failure, the list may have some of the new items. The error has all others, in the
-        // order `held`, `in_hand`, `rest`.
+        // order `held`, `in_hand`, `rest`. There are three cases, in which `k` is the number of
+        // slots of the range, and `h` that of `before_tail`:
+        // - No item follows the range, and none is in hand: the list is `old`, and no item was
+        //   taken from the iterator.
+        // - No item follows the range, and one is in hand: the list is full, and `held` is empty.
+        // - Items follow the range: the list has `k + h` new items, and the capacity after `h` was
+        //   reserved. If the error has no item, `h` is 0, and the capacity is that of `old`.
         ensures placed { let new = self.exit.0.now in IfErr result (λ error. (xs : List T)
             × (new.items ≡ (splice_front self.entry ++ xs) ++ splice_tail self.entry)
             × SpliceErrorAccountsFor I.next_gives I.can_next I.remaining

@@ -38,7 +38,8 @@ impl<T: Clone, A: Allocator, G: Growth> ThinVec<T, A, G> {
         // callers need. `err` distinguishes two cases. In the first, the list had no room, and
         // nothing changed. In the second, a clone failed: the field `at` is the index of its item.
         // Then the capacity is that of a success, and the cost includes one move for each of the
-        // `at` clones that were made before.
+        // `at` clones that were made before. (If the list had no room and a clone fails, both cases
+        // are possible. Tests show that it is the second.)
         ensures err_items { OnErr result (self.new.items ≡ self.old.items) }
         ensures err_overflow { IsErrOf result ThinVecError.CapacityOverflow
             → self.new ≡ self.old }
@@ -210,7 +211,8 @@ impl<T: Clone, A: Allocator, G: Growth> ThinVec<T, A, G> {
         // callers need. `err` distinguishes two cases. In the first, the list had no room, and
         // nothing changed. In the second, a clone failed: the field `at` is the index of its item.
         // Then the capacity is that of a success, and the cost includes one move for each of the
-        // `at` clones that were made before.
+        // `at` clones that were made before. (If the list had no room and a clone fails, both cases
+        // are possible.)
         ensures err_items { OnErr result (self.new.items ≡ self.old.items) }
         ensures err_overflow { IsErrOf result ThinVecError.CapacityOverflow
             → self.new ≡ self.old }

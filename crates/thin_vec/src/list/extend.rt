@@ -197,7 +197,9 @@ impl<T, A: Allocator> ThinVec<T, A> {
         // When it must succeed. In every other case it may fail.
         ensures succeeds { size (I.remaining iter) ≡ 0 → IsOk result }
 
-        // On failure.
+        // On failure. The iterator yielded the items of the list in the error and the one in hand,
+        // and `rest` yields the others. With no item in hand, none was taken: the list is new, and
+        // `rest` is `iter`. With one, the list is full. Its capacity and cost are as in `new`.
         ensures placed { IfErr result
             (λ error. YieldsAndCanContinue I.next_gives I.can_next I.remaining iter
             (error.list.items ++ option_to_list error.in_hand) error.rest) }
