@@ -18,6 +18,7 @@ mod ported;
 mod refusals;
 mod refused;
 mod splices;
+mod standard;
 mod texts;
 mod traits;
 pub mod widths;

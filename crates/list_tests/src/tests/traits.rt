@@ -53,10 +53,13 @@ fn clone_from_replaces_the_block(rt: HostRuntime) {
 
 #[test]
 fn or_default_makes_a_list_without_a_block(rt: HostRuntime) {
-    let mut lists: HashMap<u32, ThinVec<i32>> = HashMap::new(rt.alloc());
-    let list = check!(rt; lists.entry(1)).or_default();
+    let lender = check!(rt; Refusing::leaked(rt.alloc(), 0));
+    let mut lists = HashMap::new(lender);
+    let list: &mut ThinVec<i32, Lender> = check!(rt; lists.entry(1_u32)).or_default();
     check!(rt; same(list.capacity(), 0));
+    let requests = lender.requests();
     check!(rt; list.push(10));
+    check!(rt; same(lender.requests(), requests.saturating_add(1)));
     let list = check!(rt; lists.entry(1)).or_default();
     check!(rt; holds(list, &[10], 4));
 }
@@ -180,6 +183,11 @@ fn sorts_request_memory_only_if_they_need_it_and_drop_their_closures(rt: HostRun
         (2, 20, 10, 3),
         (3, 20, 10, 0),
         (4, 20, 10, 0),
+        (0, 3000, 1000, 1),
+        (1, 3000, 1000, 1),
+        (2, 3000, 1000, 3),
+        (3, 3000, 1000, 0),
+        (4, 3000, 1000, 0),
     ] {
         let mut list = check!(rt; two_runs(&ledger.alloc, first, second));
         assert_sort(&rt, ledger, &mut list, way, (1, requests.min(1)));

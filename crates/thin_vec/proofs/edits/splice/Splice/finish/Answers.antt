@@ -1,5 +1,5 @@
 -- `finish` drops the rest of the range, and then calls `finish_before_tail` or `finish_at_end`.
-use Rattle.std.proofs.Common.{Err, None, Ok, [], ◌≡◌, ◌+◌, ◌<◌, ◌≤◌, ◌++◌, ◌∙◌, ap, arith, length, length-append, subst}
+use Rattle.std.proofs.Common.{Err, Ok, [], ◌≡◌, ◌+◌, ◌<◌, ◌≤◌, ◌++◌, ◌∙◌, ap, arith, length, length-append, subst}
 use Rattle.std.specs.Prelude.{IfErr, OnErr, Result}
 use denote.Param.{param}
 use Rattle.thin_vec.specs.Edits.Finish.{FinishesSplice}
