@@ -12,7 +12,6 @@ mod growth;
 mod in_place;
 mod macros;
 mod names;
-mod no_memory;
 mod over_global;
 mod ported;
 mod refusals;

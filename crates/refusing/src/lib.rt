@@ -23,7 +23,7 @@ use std::rc::Rc;
 // `refuse`. `blocks` is the number of blocks that are allocated and have not been freed yet, and
 // `bytes` is the sum of their sizes. `lent` is the sum of the sizes of the granted requests among
 // the counted ones. `refused` is the number of the refused request, 0 if no request is refused, or
-// `ALL` if all are. `owned` is what the allocator owns, so that a test can see whether the
+// `ALL_REQUESTS` if all are. `owned` is what the allocator owns, so that a test can see whether the
 // allocator was dropped.
 #[derive(Drop)]
 struct Counts {
@@ -35,15 +35,15 @@ struct Counts {
     owned: Option<Rc<u64>>,
 }
 
-// The number in `refused` by which all requests are refused.
-const ALL: u64 = u64::MAX;
+/// The number for which `Refusing::refuse` refuses all requests, and not one.
+pub const ALL_REQUESTS: u64 = u64::MAX;
 
 // Counts a request, and returns whether this request is refused.
 fn refuses(counts: &Counts) -> bool {
     let request = counts.requests.get().saturating_add(1);
     counts.requests.set(request);
     let refused = counts.refused.get();
-    request == refused || refused == ALL
+    request == refused || refused == ALL_REQUESTS
 }
 
 // Counts a block of `size` bytes if `answer` is `Ok`.
@@ -96,7 +96,7 @@ impl<B: Allocator> Refusing<B> {
 
     /// Sets the number of requests to 0, so that the next request has the number 1, and what `lent`
     /// returns to 0. The allocator will refuse request number `refused`. If `refused` is 0, it will
-    /// refuse none.
+    /// refuse none, and if it is `ALL_REQUESTS`, all.
     pub fn refuse(&self, refused: u64) {
         self.counts.requests.set(0);
         self.counts.lent.set(0);
@@ -106,7 +106,7 @@ impl<B: Allocator> Refusing<B> {
     /// Sets the number of requests to 0. The allocator will refuse all requests until the next call
     /// to `refuse`.
     pub fn refuse_all(&self) {
-        self.refuse(ALL);
+        self.refuse(ALL_REQUESTS);
     }
 
     /// Counts a request that asks for no memory, and returns an error if this request is refused. A

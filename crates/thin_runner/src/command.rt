@@ -6,7 +6,7 @@ use std::alloc::{Allocator, Global};
 use thin_vec::{Doubling, Growth, ThinVec, ThinVecError};
 
 /// A call that takes the next item of the range of a `Drain` or a `Splice`.
-#[derive(Clone, Copy, PartialEq, Eq)]
+#[derive(Debug, Clone, Copy, PartialEq, Eq)]
 pub enum Step {
     /// Calls `next`.
     Front,

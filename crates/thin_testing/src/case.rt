@@ -22,7 +22,7 @@ pub struct At {
     /// The spare capacity before the call.
     pub spare: usize,
     pub argument: usize,
-    /// The number of the refused request, counting from 1, or 0.
+    /// The number of the refused request, counting from 1, or 0, or `ALL_REQUESTS`.
     pub refused: u64,
 }
 

@@ -23,6 +23,6 @@ pub use ledger::{Counted, CountedWord, Ledger};
 pub use lists::{counted_list, list_of, splice};
 pub use multiples::Threefold;
 pub use numbered::{Numbered, block_bytes, greatest_capacity};
-pub use refusing::Refusing;
+pub use refusing::{ALL_REQUESTS, Refusing};
 pub use ruled::{Ruled, least_power};
 pub use texts::{Misprinted, prints, prints_as};

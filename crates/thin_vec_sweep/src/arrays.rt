@@ -2,11 +2,11 @@
 ghost use Rattle.std.specs.Mem.{type_size};
 ghost use Rattle.std.specs.Prelude.{◌*◌, ◌<◌, ◌^◌};
 
-use crate::asserts::assert_right;
+use crate::asserts::assert_call;
 use std::alloc::Allocator;
 use std::process::Abort;
 use thin_testing::{Answer, At, Case, Due, Ledger, Numbered};
-use thin_vec::{Doubling, ThinVec, ThinVecError};
+use thin_vec::{Doubling, ThinVec};
 
 /// Converts lists of several lengths to arrays of up to 300 items, and back.
 pub fn arrays<T: Numbered, R: Abort>(rt: &R, ledger: &'static Ledger)
@@ -43,27 +43,20 @@ fn array<T: Numbered, const N: usize, R: Abort>(rt: &R, ledger: &'static Ledger,
     let mut case: Case<T, Doubling> = Case::new(ledger, at).expect(rt, "memory");
     let list = case.take();
     case.begin("into_array, from_array");
-    let answer: Answer = match there_and_back::<T, _, N>(list, &ledger.alloc) {
-        Ok(capacity) => Ok(Due::block_of(capacity)),
-        Err(cause) => Err(cause),
-    };
-    assert_right(rt, case.check(answer));
-    assert_right(rt, case.end());
+    let answer = there_and_back::<T, _, N>(list, &ledger.alloc);
+    assert_call(rt, case, answer);
 }
 
-// Converts the list to an array, the array to a list, and drops this list. Returns the number of
-// items for which memory was requested.
+// Converts the list to an array, the array to a list, and drops this list.
 fn there_and_back<T: Numbered, A: Allocator, const N: usize>(
     list: ThinVec<T, A>,
     alloc: A,
-) -> Result<usize, ThinVecError>
+) -> Answer
     requires small { N * type_size T.row < 2 ^ 63 }
 {
-    match list.into_array::<N>() {
-        Ok(items) => match ThinVec::from_array(alloc, items) {
-            Ok(_list) => Ok(N),
-            Err(refused) => Err(refused.cause),
-        },
-        Err(_list) => Ok(0),
-    }
+    let Ok(items) = list.into_array::<N>() else {
+        return Ok(Due::NOTHING);
+    };
+    ThinVec::from_array(alloc, items)?;
+    Ok(Due::block_of(N))
 }

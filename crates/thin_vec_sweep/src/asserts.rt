@@ -4,7 +4,8 @@ ghost use Rattle.std.specs.Prelude.{◌≤◌};
 
 use std::fmt::Debug;
 use std::process::Abort;
-use thin_testing::{At, Wrong};
+use thin_testing::{Answer, At, Case, Numbered, Wrong};
+use thin_vec::Growth;
 
 /// Asserts that a check found nothing wrong.
 pub fn assert_right<R: Abort>(rt: &R, checked: Result<(), Wrong>) {
@@ -19,6 +20,19 @@ pub fn assert_right<R: Abort>(rt: &R, checked: Result<(), Wrong>) {
     {
         assert_same(rt, at, what, found, due);
     }
+}
+
+/// Asserts that the call under test did what `answer` announces, and that nothing is left once the
+/// list is dropped. Returns the number of requests of the call.
+pub fn assert_call<T: Numbered, G: Growth, R: Abort>(
+    rt: &R,
+    case: Case<T, G>,
+    answer: Answer,
+) -> u64 {
+    let requests = case.ledger.alloc.requests();
+    assert_right(rt, case.check(answer));
+    assert_right(rt, case.end());
+    requests
 }
 
 /// Asserts that `found` equals `due`.

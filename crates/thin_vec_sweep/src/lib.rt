@@ -4,7 +4,8 @@
 //! A sweep makes each call of a group (`Calls`) on lists of many lengths, spare capacities and item
 //! types, with several arguments, under several growth rules. It makes the call with enough memory,
 //! and then again with one of its requests refused, each in turn (of many requests, some of those
-//! in the middle are left out). Clones of counted items are requests, too. After the call:
+//! in the middle are left out). A call that made no request is made again with all requests
+//! refused. Clones of counted items are requests, too. After the call:
 //!
 //! - If no request was refused, the call succeeded, or its capacity overflowed before any request.
 //!   If a request was refused, it failed with `OutOfMemory`, and made no further request.

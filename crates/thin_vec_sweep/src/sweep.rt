@@ -1,8 +1,8 @@
 //! A sweep makes each call of a group on many lists, with several arguments, and with each of its
 //! requests refused in turn.
-use crate::asserts::assert_right;
+use crate::asserts::assert_call;
 use std::process::Abort;
-use thin_testing::{Answer, At, Case, Ledger, Numbered};
+use thin_testing::{ALL_REQUESTS, Answer, At, Case, Ledger, Numbered};
 use thin_vec::Growth;
 
 /// A group of calls on a list of `T` with the growth rule `G`.
@@ -20,7 +20,7 @@ pub trait Calls<T: Numbered, G: Growth> {
 const MOST: usize = 100;
 
 /// Makes each call of the group on each list of the given lengths, with at most `most` arguments.
-/// Returns the number of cases, and the number of those in which a request was refused.
+/// Returns the number of cases, and the number of those in which requests are refused.
 #[inline(never)]
 pub fn sweep<C: Calls<T, G>, T: Numbered, G: Growth, R: Abort>(
     rt: &R,
@@ -48,8 +48,9 @@ pub fn sweep<C: Calls<T, G>, T: Numbered, G: Growth, R: Abort>(
 }
 
 // Makes the call with enough memory, and then with each of its requests refused. If it makes many
-// requests, some of those in the middle are not refused. Returns the number of refusals, or `None`
-// if no call has this number.
+// requests, some of those in the middle are not refused. If it makes none, makes it again with all
+// requests refused. Returns the number of cases with refusals, or `None` if no call has this
+// number.
 fn each_refusal<C: Calls<T, G>, T: Numbered, G: Growth, R: Abort>(
     rt: &R,
     ledger: &'static Ledger,
@@ -57,6 +58,11 @@ fn each_refusal<C: Calls<T, G>, T: Numbered, G: Growth, R: Abort>(
     call: usize,
 ) -> Option<u64> {
     let requests = case::<C, T, G, R>(rt, ledger, at, call)?;
+    if requests == 0 {
+        let refused = ALL_REQUESTS;
+        let _requests = case::<C, T, G, R>(rt, ledger, At { refused, ..at }, call);
+        return Some(1);
+    }
     let mut refusals: u64 = 0;
     for earlier in 0..requests {
         if is_refused(at.length, earlier, requests.saturating_sub(earlier)) {
@@ -88,8 +94,5 @@ fn case<C: Calls<T, G>, T: Numbered, G: Growth, R: Abort>(
 ) -> Option<u64> {
     let mut case = Case::new(ledger, at).expect(rt, "memory");
     let answer = C::call(rt, &mut case, call)?;
-    let requests = ledger.alloc.requests();
-    assert_right(rt, case.check(answer));
-    assert_right(rt, case.end());
-    Some(requests)
+    Some(assert_call(rt, case, answer))
 }

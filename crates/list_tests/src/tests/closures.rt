@@ -3,7 +3,7 @@
 use std::alloc::Global;
 use std::cell::Cell;
 use thin_testing::{Refusing, check, holds, list_of, same, same_items};
-use thin_vec::{ThinVec, ThinVecError};
+use thin_vec::ThinVec;
 
 // Appends the two digits of the item to the decimal number in `asked`, and returns the first digit.
 fn key(asked: &Cell<u64>, item: i32) -> i32 {
@@ -32,21 +32,6 @@ fn resize_with_calls_no_closure_if_refused(rt: HostRuntime) {
     let mut list: ThinVec<i32, &Refusing<Global>> = ThinVec::new(&refusing);
     let refused = list.resize_with(3, || one(&calls)).is_err();
     check!(rt; same((refused, calls.get()), (true, 0)));
-}
-
-#[test]
-fn try_resize_with_keeps_the_items_before_an_error(rt: HostRuntime) {
-    let mut list = check!(rt; list_of(rt.alloc(), &[7]));
-    let mut left: i32 = 2;
-    let failed: Result<(), ThinVecError> = list.try_resize_with(5, || {
-        if left == 0 {
-            return Err(ThinVecError::OutOfMemory);
-        }
-        left = left.wrapping_sub(1);
-        Ok(left)
-    });
-    check!(rt; same(failed, Err(ThinVecError::OutOfMemory)));
-    check!(rt; holds(&list, &[7, 1, 0], 5));
 }
 
 #[test]

@@ -130,9 +130,3 @@ fn a_list_and_its_slice_hash_alike(rt: HostRuntime) {
         check!(rt; same(hash_of(&list), hash_of_slice(items)));
     }
 }
-
-#[test]
-fn lists_of_nan_are_not_ordered(rt: HostRuntime) {
-    let list = check!(rt; list_of(rt.alloc(), &[1.0, f64::NAN]));
-    check!(rt; same((list == list, list.partial_cmp(&list)), (false, None)));
-}

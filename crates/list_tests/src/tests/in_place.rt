@@ -3,7 +3,7 @@
 //! block of 32 slots or more, which is padded, if its items are larger and aligned to 8. The tests
 //! compare items and capacities, which are the same whether or not a block moves, and the number of
 //! allocated bytes, so they see which blocks are padded.
-use std::alloc::{Allocator, Global};
+use std::alloc::Allocator;
 use std::process::Abort;
 use thin_testing::{Counted, Ledger, Lender, Numbered, block_bytes, check, least_power, same};
 use thin_vec::{PowerBytes, ThinVec, ThinVecError};
@@ -121,29 +121,6 @@ fn a_block_of_large_items_is_padded_from_32_slots_on(rt: HostRuntime) {
     assert_type::<[u128; 3]>(&rt, ledger);
     assert_type::<[u64; 40]>(&rt, ledger);
     assert_type::<Counted<'static, u64>>(&rt, ledger);
-}
-
-// Pushes 3000 items onto a list. Each time that the list is full, another list is allocated, in
-// most cases directly after it, so that it cannot grow in place.
-fn assert_moves<T: Numbered>(rt: &impl Abort, ledger: &'static Ledger, alloc: Global) {
-    let mut neighbors = ThinVec::<ThinVec<u8>>::new(alloc);
-    let mut list = ThinVec::<T>::new(alloc);
-    for index in 0..3000 {
-        if list.len() == list.capacity() {
-            let neighbor = check!(rt; ThinVec::with_capacity(alloc, 40));
-            check!(rt; neighbors.push(neighbor));
-        }
-        check!(rt; list.push(T::numbered(ledger, index)));
-    }
-    assert_filled(rt, ledger, &list, (3000, 4096));
-}
-
-#[test]
-fn a_list_moves_if_it_cannot_grow_in_place(rt: HostRuntime) {
-    let (ledger, alloc) = (check!(rt; Ledger::leaked(rt.alloc())), rt.alloc());
-    assert_moves::<u8>(&rt, ledger, alloc);
-    assert_moves::<u128>(&rt, ledger, alloc);
-    assert_moves::<[u64; 3]>(&rt, ledger, alloc);
 }
 
 // Pushes items onto a list under the growth rule `PowerBytes`. Asserts that its block, which is a

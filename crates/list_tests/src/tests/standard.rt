@@ -13,7 +13,8 @@ use thin_vec::ThinVec;
 type Items = ThinVec<Counted<'static>, Lender>;
 
 // Makes lists of ten items by one of three calls, which the number `way`, from 0 to 2, selects.
-// Returns the lengths of the two lists, or of one and its capacity.
+// Returns the lengths of the two lists, or the length and the capacity of the one list that
+// `try_collect` makes.
 fn lengths_by_way(way: u32, ledger: &'static Ledger) -> Result<(usize, usize), AllocError> {
     let items = (0..10).map(|number| Counted::new(ledger, number, ()));
     match way {

@@ -198,7 +198,7 @@ fn sorts_request_memory_only_if_they_need_it_and_drop_their_closures(rt: HostRun
 #[test]
 fn sort_requests_memory_for_more_than_twenty_items(rt: HostRuntime) {
     let refusing = check!(rt; Refusing::leaked(rt.alloc(), 0));
-    for (second, requests) in [(10, 0), (11, 1)] {
+    for (second, requests) in [(10, 0), (11, 1), (3990, 1)] {
         let mut list = check!(rt; two_runs(refusing, 10, second));
         refusing.refuse(0);
         check!(rt; list.sort());

@@ -5,7 +5,8 @@ use crate::asserts::{assert_right, assert_same};
 use std::iter;
 use std::process::Abort;
 use thin_testing::{
-    At, Case, Claims, Ledger, Numbered, Ruled, block_bytes, greatest_capacity, numbered_items,
+    ALL_REQUESTS, At, Case, Claims, Ledger, Numbered, Ruled, block_bytes, greatest_capacity,
+    numbered_items,
 };
 use thin_vec::{CollectRefused, Doubling, ExtendRefused, Growth, ThinVec, ThinVecError};
 
@@ -338,13 +339,18 @@ pub fn fill_lists<F: Fills<T, G>, T: Numbered, G: Ruled, R: Abort>(
     }
 }
 
-// Makes the call with enough memory, and then with each of its requests refused.
+// Makes the call with enough memory, and then with each of its requests refused, or with all if it
+// makes none.
 fn each_refusal<F: Fills<T, G>, T: Numbered, G: Ruled, R: Abort>(
     rt: &R,
     ledger: &'static Ledger,
     at: At,
 ) {
     let requests = fill::<F, T, G, R>(rt, ledger, at);
+    if requests == 0 {
+        let refused = ALL_REQUESTS;
+        let _requests = fill::<F, T, G, R>(rt, ledger, At { refused, ..at });
+    }
     for refused in 0..requests {
         let refused = refused.saturating_add(1);
         let _requests = fill::<F, T, G, R>(rt, ledger, At { refused, ..at });

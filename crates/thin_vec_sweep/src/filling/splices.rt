@@ -8,7 +8,7 @@ use crate::filling::fill::{Filling, HINTS, Source, check_filling, check_left, nt
 use std::alloc::Allocator;
 use std::iter::Iterator;
 use std::process::Abort;
-use thin_testing::{At, Case, Ledger, Numbered, Ruled};
+use thin_testing::{ALL_REQUESTS, At, Case, Ledger, Numbered, Ruled};
 use thin_vec::{Growth, Splice, SpliceRefused, ThinVec, ThinVecError};
 
 // The number of choices for the number of new items.
@@ -122,9 +122,14 @@ pub fn splices<T: Numbered, G: Ruled, R: Abort>(
     }
 }
 
-// Makes the splice with enough memory, and then with each of its requests refused.
+// Makes the splice with enough memory, and then with each of its requests refused, or with all if
+// it makes none.
 fn each_refusal<T: Numbered, G: Ruled, R: Abort>(rt: &R, ledger: &'static Ledger, at: At) {
     let requests = splice_case::<T, G, R>(rt, ledger, at);
+    if requests == 0 {
+        let refused = ALL_REQUESTS;
+        let _requests = splice_case::<T, G, R>(rt, ledger, At { refused, ..at });
+    }
     for refused in 0..requests {
         let refused = refused.saturating_add(1);
         let _requests = splice_case::<T, G, R>(rt, ledger, At { refused, ..at });

@@ -147,6 +147,15 @@ fn entries(table: &Rows<u32, Lender>) -> usize {
     visited
 }
 
+// Reads a table of two rows, of which row 0 has three entries, the last one (3, 8).
+fn assert_reads(rt: &impl Abort, table: &Rows<u32, Lender>) {
+    assert_rows(rt, table, 2);
+    check!(rt; same((table.get(0, 3), table.get(1, 3)), (Some(&8), None)));
+    check!(rt; same((table.len(), table.row(0).len(), table.is_empty()), (3, 3, false)));
+    check!(rt; same((table.owns_block(0), table.owns_block(1)), (true, false)));
+    check!(rt; same((entries(table), table == table), (3, true)));
+}
+
 // Row 0 is full.
 #[test]
 fn calls_of_a_table_take_no_memory(rt: HostRuntime) {
@@ -158,12 +167,9 @@ fn calls_of_a_table_take_no_memory(rt: HostRuntime) {
     lender.refuse_all();
     assert_set(&rt, &mut table, (0, 3), 8, Some(7));
     assert_rows(&rt, &table, 2);
-    check!(rt; same((table.get(0, 3), table.get(1, 3)), (Some(&8), None)));
     check!(rt; same(table.get_mut(0, 3).is_some(), true));
     check!(rt; same((table.remove(0, 0), table.remove(0, 0)), (Some(7), None)));
-    check!(rt; same((table.len(), table.row(0).len(), table.is_empty()), (3, 3, false)));
-    check!(rt; same((table.owns_block(0), table.owns_block(1)), (true, false)));
-    check!(rt; same((entries(&table), table == table), (3, true)));
+    assert_reads(&rt, &table);
     table.retain_row(0, |entry| entry.0 > 1);
     check!(rt; same_items(table.row(0), &[(2, 7), (3, 8)]));
     table.clear_row(0);

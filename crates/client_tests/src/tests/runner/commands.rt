@@ -3,7 +3,7 @@ use crate::tests::runner::judges::Evens;
 use crate::tests::runner::made::{
     Asked, Item, List, Ran, assert_clean, items, list_from, room, run_single, steps,
 };
-use crate::tests::runner::shown::{command_text, list_text, reply_text};
+use crate::tests::runner::shown::{list_text, reply_text};
 use std::alloc::{AllocError, Global};
 use std::process::Abort;
 use thin_runner::command::{Command, Reply};
@@ -11,80 +11,157 @@ use thin_testing::{Ledger, Numbered, check, same};
 use thin_vec::Doubling;
 
 // What each command does on a list of the items 1, 2, 2, 3. A line has the capacity before and the
-// command, and then the outcomes: with the first request refused, with the second one, and so on,
-// and last with none. An outcome is the reply, the list and the capacity, or `=` if these two are
-// as before. It is `same` if it is the one before.
-static OUTCOMES: [&str; 57] = [
-    "4, Push(9): Returned(9, OutOfMemory) = | Done [1, 2, 2, 3, 9] 8",
-    "6, Push(9): Done [1, 2, 2, 3, 9] 6",
-    "4, Pop: Item(Some(3)) [1, 2, 2] 4",
-    "4, Insert(1, 9): Returned(9, OutOfMemory) = | Done [1, 9, 2, 2, 3] 8",
-    "6, Insert(1, 9): Done [1, 9, 2, 2, 3] 6",
-    "4, Insert(5, 9): OutOfRange(Insert(5, 9)) =",
-    "4, Remove(1): Item(Some(2)) [1, 2, 3] 4",
-    "4, Remove(4): OutOfRange(Remove(4)) =",
-    "4, SwapRemove(0): Item(Some(1)) [3, 2, 2] 4",
-    "4, SwapRemove(4): OutOfRange(SwapRemove(4)) =",
-    "4, Set(3, 9): Item(Some(3)) [1, 2, 2, 9] 4",
-    "4, Set(4, 9): OutOfRange(Set(4, 9)) =",
-    "4, Truncate(1): Done [1] 4",
-    "4, Truncate(5): Done =",
-    "4, Clear: Done [] 4",
-    "4, Reserve(1): Refused(OutOfMemory) = | Done [1, 2, 2, 3] 8",
-    "4, Reserve(18446744073709551615): Refused(CapacityOverflow) =",
-    "4, ReserveExact(1): Refused(OutOfMemory) = | Done [1, 2, 2, 3] 5",
-    "4, ReserveExact(9223372036854775808): Refused(CapacityOverflow) =",
-    "4, ShrinkToFit: Done =",
-    "6, ShrinkToFit: Refused(OutOfMemory) = | Done [1, 2, 2, 3] 4",
-    "4, Resize(6, 9): Refused(OutOfMemory) = | Refused(OutOfMemory) [1, 2, 2, 3] 8 \
-        | Done [1, 2, 2, 3, 9, 9] 8",
-    "6, Resize(5, 9): Done [1, 2, 2, 3, 9] 6",
-    "4, Resize(2, 9): Done [1, 2] 4",
-    "4, Resize(18446744073709551615, 9): Refused(CapacityOverflow) =",
-    "4, ExtendFromSlice([7, 8]): Refused(OutOfMemory) = | Refused(OutOfMemory) [1, 2, 2, 3] 8 \
-        | same | Done [1, 2, 2, 3, 7, 8] 8",
-    "4, ExtendFromSlice([]): Done =",
-    "4, Extend([7, 8], 0): Stopped([], OutOfMemory, [], Some(7), [8]) = \
-        | Done [1, 2, 2, 3, 7, 8] 8",
-    "4, Extend([7, 8], 2): Stopped([], OutOfMemory, [], None, [7, 8]) = \
-        | Done [1, 2, 2, 3, 7, 8] 8",
-    "4, Extend([4, 5, 6, 7, 8], 1): Stopped([], OutOfMemory, [], None, [4, 5, 6, 7, 8]) = \
-        | Stopped([], OutOfMemory, [], Some(8), []) [1, 2, 2, 3, 4, 5, 6, 7] 8 \
-        | Done [1, 2, 2, 3, 4, 5, 6, 7, 8] 16",
-    "6, Extend([7, 8], 2): Done [1, 2, 2, 3, 7, 8] 6",
-    "4, Extend([7], 9223372036854775808): Stopped([], CapacityOverflow, [], None, [7]) =",
-    "4, Append([7, 8], 3): Other([7, 8], 3, Some(OutOfMemory)) = \
-        | Other([], 3, None) [1, 2, 2, 3, 7, 8] 8",
-    "6, Append([7, 8], 3): Other([], 3, None) [1, 2, 2, 3, 7, 8] 6",
-    "4, SplitOff(1): Refused(OutOfMemory) = | List([2, 2, 3], 3) [1] 4",
-    "4, SplitOff(4): List([], 0) =",
-    "4, SplitOff(5): OutOfRange(SplitOff(5)) =",
-    "6, Clone: Refused(OutOfMemory) = | same | same | same | same | List([1, 2, 2, 3], 4) =",
-    "4, Retain: Done [2, 2] 4",
-    "4, RetainMut: Done [2, 2] 4",
-    "4, Dedup: Done [1, 2, 3] 4",
-    "4, DedupBy: Done [1, 3] 4",
-    "4, DedupByKey: Done [1, 2, 3] 4",
-    "4, Drain(1, 4, [BF]): Refused(OutOfMemory) = | Answers([Some(3), Some(2)]) [1] 4",
-    "4, Drain(1, 3, [BFB]): Refused(OutOfMemory) = | Answers([Some(2), Some(2), None]) [1, 3] 4",
-    "4, Drain(1, 3, []): Answers([]) [1, 3] 4",
-    "4, Drain(3, 1, [BF]): OutOfRange(Drain(3, 1, [BF])) =",
-    "4, Drain(3, 5, []): OutOfRange(Drain(3, 5, [])) =",
-    "4, ExtractIf(0, 4, 3): Refused(OutOfMemory) = | Answers([Some(2), Some(2), None]) [1, 3] 4",
-    "4, ExtractIf(0, 4, 0): Answers([]) =",
-    "4, ExtractIf(0, 5, 1): OutOfRange(ExtractIf(0, 5, 1)) =",
-    "4, Splice(1, 3, [B], [7, 8, 9], 1): Refused(OutOfMemory) = \
-        | Stopped([Some(2)], OutOfMemory, [], None, [9]) [1, 7, 8, 3] 4 \
-        | Answers([Some(2)]) [1, 7, 8, 9, 3] 8",
-    "4, Splice(1, 3, [], [7, 8, 9], 0): Stopped([], OutOfMemory, [], Some(9), []) [1, 7, 8, 3] 4 \
-        | Stopped([], OutOfMemory, [9], None, []) [1, 7, 8, 3] 4 | Answers([]) [1, 7, 8, 9, 3] 8",
-    "4, Splice(1, 4, [B], [4, 5, 6, 7, 8], 0): Refused(OutOfMemory) = \
-        | Stopped([Some(3)], OutOfMemory, [], Some(7), [8]) [1, 4, 5, 6] 4 \
-        | Answers([Some(3)]) [1, 4, 5, 6, 7, 8] 8",
-    "4, Splice(1, 3, [], [7], 5): Answers([]) [1, 7, 3] 4",
-    "4, Splice(1, 3, [], [7, 8], 9223372036854775808): \
-        Stopped([], CapacityOverflow, [], None, []) [1, 7, 8, 3] 4",
-    "4, Splice(3, 1, [BF], [7], 1): OutOfRange(Splice(3, 1, [BF], [7], 1)) =",
+// command, which `nth_command` makes, and then the outcomes: with the first request refused, with
+// the second one, and so on, and last with none. An outcome is the reply, the list and the
+// capacity, or `=` if these two are as before. It is `same` if it is the one before.
+static OUTCOMES: [(&str, &str); 57] = [
+    (
+        "4, Push(9)",
+        "Returned(9, OutOfMemory) = | Done [1, 2, 2, 3, 9] 8",
+    ),
+    ("6, Push(9)", "Done [1, 2, 2, 3, 9] 6"),
+    ("4, Pop", "Item(Some(3)) [1, 2, 2] 4"),
+    (
+        "4, Insert(1, 9)",
+        "Returned(9, OutOfMemory) = | Done [1, 9, 2, 2, 3] 8",
+    ),
+    ("6, Insert(1, 9)", "Done [1, 9, 2, 2, 3] 6"),
+    ("4, Insert(5, 9)", "OutOfRange(Insert(5, 9)) ="),
+    ("4, Remove(1)", "Item(Some(2)) [1, 2, 3] 4"),
+    ("4, Remove(4)", "OutOfRange(Remove(4)) ="),
+    ("4, SwapRemove(0)", "Item(Some(1)) [3, 2, 2] 4"),
+    ("4, SwapRemove(4)", "OutOfRange(SwapRemove(4)) ="),
+    ("4, Set(3, 9)", "Item(Some(3)) [1, 2, 2, 9] 4"),
+    ("4, Set(4, 9)", "OutOfRange(Set(4, 9)) ="),
+    ("4, Truncate(1)", "Done [1] 4"),
+    ("4, Truncate(5)", "Done ="),
+    ("4, Clear", "Done [] 4"),
+    (
+        "4, Reserve(1)",
+        "Refused(OutOfMemory) = | Done [1, 2, 2, 3] 8",
+    ),
+    (
+        "4, Reserve(18446744073709551615)",
+        "Refused(CapacityOverflow) =",
+    ),
+    (
+        "4, ReserveExact(1)",
+        "Refused(OutOfMemory) = | Done [1, 2, 2, 3] 5",
+    ),
+    (
+        "4, ReserveExact(9223372036854775808)",
+        "Refused(CapacityOverflow) =",
+    ),
+    ("4, ShrinkToFit", "Done ="),
+    (
+        "6, ShrinkToFit",
+        "Refused(OutOfMemory) = | Done [1, 2, 2, 3] 4",
+    ),
+    (
+        "4, Resize(6, 9)",
+        "Refused(OutOfMemory) = | Refused(OutOfMemory) [1, 2, 2, 3] 8 \
+            | Done [1, 2, 2, 3, 9, 9] 8",
+    ),
+    ("6, Resize(5, 9)", "Done [1, 2, 2, 3, 9] 6"),
+    ("4, Resize(2, 9)", "Done [1, 2] 4"),
+    (
+        "4, Resize(18446744073709551615, 9)",
+        "Refused(CapacityOverflow) =",
+    ),
+    (
+        "4, ExtendFromSlice([7, 8])",
+        "Refused(OutOfMemory) = | Refused(OutOfMemory) [1, 2, 2, 3] 8 | same \
+            | Done [1, 2, 2, 3, 7, 8] 8",
+    ),
+    ("4, ExtendFromSlice([])", "Done ="),
+    (
+        "4, Extend([7, 8], 0)",
+        "Stopped([], OutOfMemory, [], Some(7), [8]) = | Done [1, 2, 2, 3, 7, 8] 8",
+    ),
+    (
+        "4, Extend([7, 8], 2)",
+        "Stopped([], OutOfMemory, [], None, [7, 8]) = | Done [1, 2, 2, 3, 7, 8] 8",
+    ),
+    (
+        "4, Extend([4, 5, 6, 7, 8], 1)",
+        "Stopped([], OutOfMemory, [], None, [4, 5, 6, 7, 8]) = \
+            | Stopped([], OutOfMemory, [], Some(8), []) [1, 2, 2, 3, 4, 5, 6, 7] 8 \
+            | Done [1, 2, 2, 3, 4, 5, 6, 7, 8] 16",
+    ),
+    ("6, Extend([7, 8], 2)", "Done [1, 2, 2, 3, 7, 8] 6"),
+    (
+        "4, Extend([7], 9223372036854775808)",
+        "Stopped([], CapacityOverflow, [], None, [7]) =",
+    ),
+    (
+        "4, Append([7, 8], 3)",
+        "Other([7, 8], 3, Some(OutOfMemory)) = | Other([], 3, None) [1, 2, 2, 3, 7, 8] 8",
+    ),
+    (
+        "6, Append([7, 8], 3)",
+        "Other([], 3, None) [1, 2, 2, 3, 7, 8] 6",
+    ),
+    (
+        "4, SplitOff(1)",
+        "Refused(OutOfMemory) = | List([2, 2, 3], 3) [1] 4",
+    ),
+    ("4, SplitOff(4)", "List([], 0) ="),
+    ("4, SplitOff(5)", "OutOfRange(SplitOff(5)) ="),
+    (
+        "6, Clone",
+        "Refused(OutOfMemory) = | same | same | same | same | List([1, 2, 2, 3], 4) =",
+    ),
+    ("4, Retain", "Done [2, 2] 4"),
+    ("4, RetainMut", "Done [2, 2] 4"),
+    ("4, Dedup", "Done [1, 2, 3] 4"),
+    ("4, DedupBy", "Done [1, 3] 4"),
+    ("4, DedupByKey", "Done [1, 2, 3] 4"),
+    (
+        "4, Drain(1, 4, [Back, Front])",
+        "Refused(OutOfMemory) = | Answers([Some(3), Some(2)]) [1] 4",
+    ),
+    (
+        "4, Drain(1, 3, [Back, Front, Back])",
+        "Refused(OutOfMemory) = | Answers([Some(2), Some(2), None]) [1, 3] 4",
+    ),
+    ("4, Drain(1, 3, [])", "Answers([]) [1, 3] 4"),
+    (
+        "4, Drain(3, 1, [Back, Front])",
+        "OutOfRange(Drain(3, 1, [Back, Front])) =",
+    ),
+    ("4, Drain(3, 5, [])", "OutOfRange(Drain(3, 5, [])) ="),
+    (
+        "4, ExtractIf(0, 4, 3)",
+        "Refused(OutOfMemory) = | Answers([Some(2), Some(2), None]) [1, 3] 4",
+    ),
+    ("4, ExtractIf(0, 4, 0)", "Answers([]) ="),
+    ("4, ExtractIf(0, 5, 1)", "OutOfRange(ExtractIf(0, 5, 1)) ="),
+    (
+        "4, Splice(1, 3, [Back], [7, 8, 9], 1)",
+        "Refused(OutOfMemory) = | Stopped([Some(2)], OutOfMemory, [], None, [9]) [1, 7, 8, 3] 4 \
+            | Answers([Some(2)]) [1, 7, 8, 9, 3] 8",
+    ),
+    (
+        "4, Splice(1, 3, [], [7, 8, 9], 0)",
+        "Stopped([], OutOfMemory, [], Some(9), []) [1, 7, 8, 3] 4 \
+            | Stopped([], OutOfMemory, [9], None, []) [1, 7, 8, 3] 4 \
+            | Answers([]) [1, 7, 8, 9, 3] 8",
+    ),
+    (
+        "4, Splice(1, 4, [Back], [4, 5, 6, 7, 8], 0)",
+        "Refused(OutOfMemory) = \
+            | Stopped([Some(3)], OutOfMemory, [], Some(7), [8]) [1, 4, 5, 6] 4 \
+            | Answers([Some(3)]) [1, 4, 5, 6, 7, 8] 8",
+    ),
+    ("4, Splice(1, 3, [], [7], 5)", "Answers([]) [1, 7, 3] 4"),
+    (
+        "4, Splice(1, 3, [], [7, 8], 9223372036854775808)",
+        "Stopped([], CapacityOverflow, [], None, []) [1, 7, 8, 3] 4",
+    ),
+    (
+        "4, Splice(3, 1, [Back, Front], [7], 1)",
+        "OutOfRange(Splice(3, 1, [Back, Front], [7], 1)) =",
+    ),
 ];
 
 // More requests than any command makes.
@@ -316,15 +393,15 @@ fn add_outcome(line: &mut String, mark: &str, outcome: &str, last: &str) -> Resu
 }
 
 // Executes the command of a line with each of its requests refused, and then with none refused.
-// Returns the line.
+// Returns the outcomes.
 fn outcomes(rt: &impl Abort, ledger: &'static Ledger, number: usize) -> String {
     assert_no_room(rt, ledger, number);
-    let mut line = title(rt, ledger, number);
+    let mut line = String::new(ledger.global);
     let mut last = String::new(ledger.global);
     for granted in 0..MOST {
         let refused = granted.saturating_add(2);
         let (outcome, requests) = outcome(rt, ledger, number, refused);
-        let mark = if granted == 0 { ": " } else { " | " };
+        let mark = if granted == 0 { "" } else { " | " };
         check!(rt; add_outcome(&mut line, mark, outcome.as_str(), last.as_str()));
         if requests < refused {
             assert!(rt; !outcome.as_str().contains("OutOfMemory"), "line {number}");
@@ -335,22 +412,13 @@ fn outcomes(rt: &impl Abort, ledger: &'static Ledger, number: usize) -> String {
     line
 }
 
-// Returns how a line begins.
-fn title(rt: &impl Abort, ledger: &'static Ledger, number: usize) -> String {
-    ledger.begin(0);
-    let (spare, command): (usize, Asked<Item>) = nth_command(rt, ledger, number);
-    let command = check!(rt; command_text(ledger.global, &command));
-    let capacity = spare.saturating_add(4);
-    check!(rt; format!(in ledger.global; "{capacity}, {}", command.as_str()))
-}
-
 #[test]
 fn each_command_with_each_request_refused(rt: HostRuntime) {
     let ledger = check!(rt; Ledger::leaked(rt.alloc()));
     let mut number: usize = 0;
-    for wanted in &OUTCOMES {
+    for (command, wanted) in &OUTCOMES {
         let line = outcomes(&rt, ledger, number);
-        check!(rt; same(line.as_str(), *wanted));
+        check!(rt; same((*command, line.as_str()), (*command, *wanted)));
         number = number.saturating_add(1);
     }
 }

@@ -30,18 +30,22 @@ fn pops<A: Allocator>(rt: &impl Abort, alloc: A, count: usize) -> Vec<Command<i3
     commands
 }
 
+// Pops `count` items by one run, and asserts that it makes no request.
+fn assert_pops(rt: &impl Abort, lender: Lender, list: &mut ThinVec<i32, Lender>, count: usize) {
+    lender.refuse(0);
+    let mut replies = check!(rt; Vec::with_capacity(lender, 9));
+    let commands = pops(rt, lender, count);
+    lender.refuse(1);
+    let ran = run(lender, list, commands, &mut replies, &NEVER);
+    check!(rt; same((ran, lender.requests(), replies.len()), (Ok(()), 0, count)));
+}
+
 #[test]
 fn run_makes_no_request_if_there_is_room_for_its_replies(rt: HostRuntime) {
-    let refusing = check!(rt; Refusing::leaked(rt.alloc(), 0));
-    let mut list = check!(rt; list_of(refusing, &[1, 2]));
+    let lender = check!(rt; Refusing::leaked(rt.alloc(), 0));
+    let mut list = check!(rt; list_of(lender, &[1, 2]));
     for count in [1, 2, 9] {
-        refusing.refuse(0);
-        let mut replies = check!(rt; Vec::with_capacity(refusing, 9));
-        let commands = pops(&rt, refusing, count);
-        refusing.refuse(1);
-        let ran = run(refusing, &mut list, commands, &mut replies, &NEVER);
-        let found = (ran, refusing.requests(), replies.len());
-        check!(rt; same(found, (Ok(()), 0, count)));
+        assert_pops(&rt, lender, &mut list, count);
     }
 }
 
@@ -83,30 +87,13 @@ fn a_reply_uses_the_allocator_passed(rt: HostRuntime) {
     }
 }
 
-// Returns the answers and the held items of a reply to a command that was stopped.
-fn stopped<T: Drop, A: Allocator>(reply: Reply<T, A>) -> Option<(Vec<Option<T>, A>, Vec<T, A>)> {
-    match reply {
-        Reply::Stopped {
-            answers,
-            cause: _,
-            held,
-            in_hand: _,
-            rest: _,
-        } => Some((answers, held)),
-        _ => None,
+// Pushes an item to each of the two vectors of the reply, if the command was stopped. They are
+// empty, and each gets a block.
+fn fill<A: Allocator>(rt: &impl Abort, reply: &mut Reply<i32, A>) {
+    if let Reply::Stopped { answers, held, .. } = reply {
+        check!(rt; answers.push(None));
+        check!(rt; held.push(7));
     }
-}
-
-// Pushes an item to each of the two vectors of the reply. They are empty, and each gets a block.
-// Returns the vectors.
-fn filled<A: Allocator>(
-    rt: &impl Abort,
-    reply: Reply<i32, A>,
-) -> (Vec<Option<i32>, A>, Vec<i32, A>) {
-    let (mut answers, mut held) = check!(rt; stopped(reply));
-    check!(rt; answers.push(None).ok());
-    check!(rt; held.push(7).ok());
-    (answers, held)
 }
 
 #[test]
@@ -116,7 +103,7 @@ fn a_reply_to_a_stopped_extend_uses_the_allocator_passed(rt: HostRuntime) {
     let mut list = check!(rt; list_of(own, &[1, 2, 3]));
     let command = Command::Extend(Vec::new(own), usize::MAX);
     own.refuse(0);
-    let reply = step(other, &mut list, command, &NEVER);
-    let _vectors = filled(&rt, reply);
+    let mut reply = step(other, &mut list, command, &NEVER);
+    fill(&rt, &mut reply);
     check!(rt; same((own.requests(), other.blocks()), (0, 2)));
 }

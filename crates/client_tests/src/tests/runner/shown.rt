@@ -1,7 +1,7 @@
-//! Prints replies, commands and lists.
+//! Prints replies and lists.
 use crate::tests::runner::made::{Asked, Item, List, Told};
 use std::alloc::{AllocError, Global};
-use thin_runner::command::{Command, Reply, Step};
+use thin_runner::command::{Command, Reply};
 
 /// Prints the items of the list and its capacity.
 pub fn list_text(alloc: Global, list: &List<Item>) -> Result<String, AllocError> {
@@ -38,56 +38,23 @@ pub fn reply_text(alloc: Global, reply: Told<Item>) -> Result<String, AllocError
     }
 }
 
-/// Prints the command with all that it owns.
-pub fn command_text(alloc: Global, command: &Asked<Item>) -> Result<String, AllocError> {
+// Prints a command whose index or range can be out of bounds, with all that it owns.
+fn command_text(alloc: Global, command: &Asked<Item>) -> Result<String, AllocError> {
     match command {
-        Command::Push(item) => format!(in alloc; "Push({item:?})"),
-        Command::Pop => format!(in alloc; "Pop"),
         Command::Insert(index, item) => format!(in alloc; "Insert({index}, {item:?})"),
         Command::Remove(index) => format!(in alloc; "Remove({index})"),
         Command::SwapRemove(index) => format!(in alloc; "SwapRemove({index})"),
         Command::Set(index, item) => format!(in alloc; "Set({index}, {item:?})"),
-        Command::Truncate(len) => format!(in alloc; "Truncate({len})"),
-        Command::Clear => format!(in alloc; "Clear"),
-        Command::Reserve(count) => format!(in alloc; "Reserve({count})"),
-        Command::ReserveExact(count) => format!(in alloc; "ReserveExact({count})"),
-        Command::ShrinkToFit => format!(in alloc; "ShrinkToFit"),
-        Command::Resize(len, item) => format!(in alloc; "Resize({len}, {item:?})"),
-        Command::ExtendFromSlice(items) => format!(in alloc; "ExtendFromSlice({items:?})"),
-        Command::Extend(items, lower) => format!(in alloc; "Extend({items:?}, {lower})"),
-        Command::Append(list) => format!(in alloc; "Append({list:?}, {})", list.capacity()),
         Command::SplitOff(at) => format!(in alloc; "SplitOff({at})"),
-        Command::Clone => format!(in alloc; "Clone"),
-        Command::Retain => format!(in alloc; "Retain"),
-        Command::RetainMut => format!(in alloc; "RetainMut"),
-        Command::Dedup => format!(in alloc; "Dedup"),
-        Command::DedupBy => format!(in alloc; "DedupBy"),
-        Command::DedupByKey => format!(in alloc; "DedupByKey"),
         Command::Drain(start, end, steps) => {
-            let steps = steps_text(alloc, steps.as_slice())?;
-            format!(in alloc; "Drain({start}, {end}, [{}])", steps.as_str())
+            format!(in alloc; "Drain({start}, {end}, {steps:?})")
         }
         Command::ExtractIf(start, end, count) => {
             format!(in alloc; "ExtractIf({start}, {end}, {count})")
         }
         Command::Splice(start, end, steps, items, lower) => {
-            let steps = steps_text(alloc, steps.as_slice())?;
-            format!(in alloc;
-                "Splice({start}, {end}, [{}], {items:?}, {lower})",
-                steps.as_str()
-            )
+            format!(in alloc; "Splice({start}, {end}, {steps:?}, {items:?}, {lower})")
         }
+        _ => format!(in alloc; "a command without an index"),
     }
-}
-
-// Prints a letter for each step: `F` or `B`.
-fn steps_text(alloc: Global, steps: &[Step]) -> Result<String, AllocError> {
-    let mut text = String::new(alloc);
-    for step in steps {
-        text.push_str(match step {
-            Step::Front => "F",
-            Step::Back => "B",
-        })?;
-    }
-    Ok(text)
 }

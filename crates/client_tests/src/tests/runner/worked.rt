@@ -41,7 +41,7 @@ static REFUSED: [&[&str]; 5] = [
     &[
         "Item(None)",
         "Stopped([], OutOfMemory, [], None, [1, 2, 3, 4, 5, 6])",
-        "OutOfRange(Splice(1, 3, [F], [9], 1))",
+        "OutOfRange(Splice(1, 3, [Front], [9], 1))",
         "OutOfRange(ExtractIf(0, 5, 2))",
         "OutOfRange(SplitOff(3))",
         "OutOfRange(Splice(2, 1, [], [7], 1))",
