@@ -5,7 +5,7 @@ ghost use Rattle.std.specs.Prelude.{◌*◌, ◌<◌, ◌^◌};
 use crate::asserts::assert_call;
 use std::alloc::Allocator;
 use std::process::Abort;
-use thin_testing::{Answer, At, Case, Due, Ledger, Numbered};
+use thin_testing::{ALL_REQUESTS, Answer, At, Case, Due, Ledger, Numbered};
 use thin_vec::{Doubling, ThinVec};
 
 /// Converts lists of several lengths to arrays of up to 300 items, and back.
@@ -18,21 +18,21 @@ pub fn arrays<T: Numbered, R: Abort>(rt: &R, ledger: &'static Ledger)
     arrays_of::<T, 300, R>(rt, ledger);
 }
 
-// Converts lists to arrays of `N` items, and back. Refuses the request of the conversion back.
+// Converts lists to arrays of `N` items, and back. Then does the same, and refuses the request of
+// the conversion back, or all requests if there is none.
 fn arrays_of<T: Numbered, const N: usize, R: Abort>(rt: &R, ledger: &'static Ledger)
     requires small { N * type_size T.row < 2 ^ 63 }
 {
     for length in [0, 1, 6, 7, 8, 300] {
         for spare in 0..2 {
-            for refused in 0..if length == N { 2 } else { 1 } {
-                let at = At {
-                    refused,
-                    ..At::new(length, spare, N)
-                };
-                if length > 0 || refused == 0 {
-                    array::<T, N, R>(rt, ledger, at);
-                }
-            }
+            let refused = if length == N && N > 0 {
+                1
+            } else {
+                ALL_REQUESTS
+            };
+            let at = At::new(length, spare, N);
+            array::<T, N, R>(rt, ledger, at);
+            array::<T, N, R>(rt, ledger, At { refused, ..at });
         }
     }
 }

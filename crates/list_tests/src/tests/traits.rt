@@ -5,11 +5,12 @@ use std::cmp::Ordering;
 use std::collections::HashMap;
 use std::convert::AsSlice;
 use std::hash::{DefaultHasher, Hash};
+use std::ops::Bound;
 use std::process::Abort;
 use thin_testing::{
     Counted, Ledger, Lender, Refusing, check, counts, has_len, holds, list_of, same,
 };
-use thin_vec::{ThinVec, ThinVecError};
+use thin_vec::{ThinVec, ThinVecError, bounds};
 
 // Clones `source` into the list at the second try. The request of the first try is refused.
 fn clone_at_second_try(
@@ -106,8 +107,9 @@ fn slice_methods_make_no_request(rt: HostRuntime) {
         let mut list = ThinVec::new(refusing);
         check!(rt; list.resize(len, 7));
         let other = check!(rt; list.clone(refusing));
-        refusing.refuse(1);
+        refusing.refuse_all();
         write_as_slice(&rt, &mut list, len);
+        check!(rt; same(bounds(Bound::Included(0), Bound::Unbounded, len), Some((0, len))));
         check!(rt; same((list.iter().count(), len_as_slice(&list)), (len, len)));
         check!(rt; same(list.first(), other.last()));
         list.hash(&mut DefaultHasher::new());

@@ -33,7 +33,7 @@ fn has_in<T: Numbered>(case: &Case<T, Doubling>) -> bool {
 }
 
 fn make_empty<T: Numbered, R: Abort>(rt: &R, case: &mut Case<T, Doubling>) -> Answer {
-    case.begin("new, default_in, made_with, emptied, thin_vec![a =>], thin_vec![in a]");
+    case.begin("new, ruled, default_in, made_with, emptied, thin_vec![a =>], thin_vec![in a]");
     let list = empty_list(case)?;
     assert_same(rt, case.at, "capacity of an empty list", list.capacity(), 0);
     Ok(Due::NOTHING)
@@ -41,13 +41,14 @@ fn make_empty<T: Numbered, R: Abort>(rt: &R, case: &mut Case<T, Doubling>) -> An
 
 fn empty_list<T: Numbered>(case: &Case<T, Doubling>) -> Result<List<T, Doubling>, ThinVecError> {
     let alloc = &case.ledger.alloc;
-    Ok(match case.at.argument % 6 {
+    Ok(match case.at.argument % 7 {
         0 => ThinVec::new(alloc),
         1 => ThinVec::default_in(alloc),
         2 => MadeWith::made_with(alloc),
         3 => Emptied::emptied(&case.list)?,
         4 => thin_vec![in alloc]?,
-        _ => thin_vec![alloc =>]?,
+        5 => thin_vec![alloc =>]?,
+        _ => ThinVec::ruled(alloc),
     })
 }
 
