@@ -2,7 +2,7 @@
 //! undone.
 #![tactic(auto)]
 
-use editor::{Command, Editor};
+use programs::editor::{Command, Editor};
 use std::alloc::Global;
 use std::io;
 

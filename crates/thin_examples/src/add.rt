@@ -1,5 +1,5 @@
 //! Examples that add items to a list.
-ghost use Rattle.std.specs.Prelude.{◌≡◌, ◌+◌, ◌*◌, ◌<◌, ◌≤◌, ◌++◌, [], ◌∷◌, IfErr, IfNone, IfOk, IfSome, IsErrOf, IsNone, IsOk, None, OnErr, OnOk, OnSome, length, map, max, min, take};
+ghost use Rattle.std.specs.Prelude.{◌≡◌, ◌+◌, ◌*◌, ◌<◌, ◌≤◌, ◌++◌, [], ◌∷◌, IfErr, IfNone, IfOk, IfSome, IsErrOf, IsNone, IsOk, None, OnErr, OnOk, OnSome, length, map, max, min};
 ghost use Rattle.thin_vec.specs.ThinVec.{HasRoomFor, IsCauseOf, capacity_after_reserve};
 
 use std::alloc::Allocator;
@@ -46,51 +46,6 @@ pub fn push_both<T: Drop, A: Allocator, G: Growth>(
     Ok(())
 }
 
-/// Moves all items of `first`, and then all items of `second`, to the end of `list`.
-///
-/// # Errors
-///
-/// Fails if there is no room for the items of both lists. On failure, all three lists are
-/// unchanged.
-pub fn append_both<T, A: Allocator, G: Growth>(
-    list: &mut ThinVec<T, A, G>,
-    first: &mut ThinVec<T, A, G>,
-    second: &mut ThinVec<T, A, G>,
-) -> Result<(), ThinVecError>
-    ensures items { OnOk result (list.new.items
-        ≡ (list.old.items ++ first.old.items) ++ second.old.items) }
-    ensures first_items { OnOk result (first.new.items ≡ []) }
-    ensures second_items { OnOk result (second.new.items ≡ []) }
-    ensures err { OnErr result (list.new ≡ list.old) }
-    ensures first_err { OnErr result (first.new ≡ first.old) }
-    ensures second_err { OnErr result (second.new ≡ second.old) }
-{
-    list.reserve(first.len() + second.len())?;
-    list.append_reserved(first);
-    list.append_reserved(second);
-    Ok(())
-}
-
-/// Appends `line` and then a newline to `text`. Requests memory at most once.
-///
-/// # Errors
-///
-/// Fails if there is no room for these bytes. On failure, `text` is unchanged.
-pub fn append_line<A: Allocator, G: Growth>(
-    text: &mut ThinVec<u8, A, G>,
-    line: &[u8],
-) -> Result<(), ThinVecError>
-    requires small { length line.now < 9223372036854775808 }
-    ensures succeeds { HasRoomFor text.old (length line.now + 1) → IsOk result }
-    ensures items { OnOk result (text.new.items ≡ text.old.items ++ (line.now ++ 10 ∷ [])) }
-    ensures err { OnErr result (text.new ≡ text.old) }
-{
-    text.reserve(line.len() + 1)?;
-    text.extend_from_copies_reserved(line);
-    text.push_reserved(b'\n');
-    Ok(())
-}
-
 /// Doubles each number of `numbers`, and appends the results to `list`. Requests memory at most
 /// once.
 ///
@@ -111,25 +66,6 @@ pub fn append_doubled<A: Allocator, G: Growth>(
         list.push_reserved(2 * u64::from(*number));
     }
     Ok(())
-}
-
-/// Appends the items of `numbers`, and returns how many were appended, also if there was no room
-/// for all of them. The old items are kept.
-pub fn extend_by_number<A: Allocator, G: Growth>(
-    list: &mut ThinVec<u32, A, G>,
-    numbers: &[u32],
-) -> usize
-    ensures grown { length list.new.items ≡ length list.old.items + result }
-    ensures kept { take (length list.old.items) list.new.items ≡ list.old.items }
-    ensures in_bounds { result ≤ length numbers.now }
-    ensures all { length list.old.items + length numbers.now ≤ list.old.capacity
-        → result ≡ length numbers.now }
-{
-    let before = list.len();
-    match list.extend(numbers.iter().copied()) {
-        Ok(()) => numbers.len(),
-        Err(_refused) => list.len() - before,
-    }
 }
 
 /// Appends 0, and writes `number` over it through the reference that `push_mut` returns. This is

@@ -2,10 +2,10 @@
 ghost use Rattle.std.specs.List.{dedup, fold, remove};
 ghost use Rattle.std.specs.List.Sorted.{IsSorted, IsStrictlyIncreasing};
 ghost use Rattle.std.specs.Ordering.{nat_cmp};
-ghost use Rattle.std.specs.Prelude.{◌≡◌, ◌+◌, ◌%◌, ◌/◌, ◌==◌, ◌++◌, [], ◌∷◌, IfNone, IfOk, IfSome, IsOk, OnSome, filter, length, map, min, nat_le, reverse, slice_get};
+ghost use Rattle.std.specs.Prelude.{◌≡◌, ◌+◌, ◌%◌, ◌/◌, ◌==◌, ◌++◌, [], ◌∷◌, IfNone, IfSome, OnSome, filter, length, map, min, nat_le, slice_get};
 ghost use Rattle.thin_examples.specs.EverySecond.{every_second};
 
-use std::alloc::{AllocError, Allocator, Global};
+use std::alloc::Allocator;
 use thin_vec::{Growth, ThinVec};
 
 /// Keeps the even numbers.
@@ -127,25 +127,6 @@ pub fn least<A: Allocator, G: Growth>(list: ThinVec<u32, A, G>, start: u32) -> u
         least = least.min(number);
     }
     least
-}
-
-/// Consumes the list from its end, and moves its numbers into a `Vec`.
-///
-/// # Errors
-///
-/// Fails if the allocator fails. On failure, the numbers are dropped.
-pub fn reversed_singly<A: Allocator, G: Growth>(
-    list: ThinVec<u32, A, G>,
-    alloc: Global,
-) -> Result<Vec<u32>, AllocError>
-    ensures items { IfOk result (λ vec. vec.items ≡ reverse list.items) }
-    ensures succeeds_empty { list.items ≡ [] → IsOk result }
-{
-    let mut vec = Vec::new(alloc);
-    for number in list.into_iter().rev() {
-        vec.push(number)?;
-    }
-    Ok(vec)
 }
 
 /// Consumes an empty list. The item type need not be `Drop`.

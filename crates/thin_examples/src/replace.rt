@@ -10,7 +10,7 @@ ghost use Rattle.thin_vec.specs.VecWords.{into_iter_items};
 
 use std::alloc::{AllocError, Allocator};
 use std::iter::once;
-use thin_vec::{Growth, IntoIter, SpliceRefused, ThinVec, ThinVecError, thin_vec};
+use thin_vec::{Growth, IntoIter, SpliceRefused, ThinVec, ThinVecError};
 
 /// Replaces the bytes at the indices `start..end` with `word`.
 ///
@@ -101,27 +101,6 @@ pub fn insert_names<T: Clone, A: Allocator, G: Growth>(
     list.replace_range(alloc, at, at, names)
 }
 
-/// Replaces the third and the fourth of five numbers with three new numbers. Each new number is
-/// moved once, and the fifth number at most twice.
-///
-/// # Errors
-///
-/// Fails if there is not enough memory. On failure, the third and the fourth number may have been
-/// removed, and some of the new numbers may have been inserted.
-pub fn spliced_middle<A: Allocator + Copy, G: Growth>(
-    list: &mut ThinVec<u32, A, G>,
-    alloc: A,
-) -> Result<(), AllocError>
-    requires five { length list.old.items ≡ 5 }
-    ensures items { OnOk result (list.new.items ≡ (take 2 list.old.items ++ 10 ∷ 11 ∷ 12 ∷ [])
-        ++ drop 4 list.old.items) }
-    ensures five_moves { OnOk result (list.new.cost.moves ≤ list.old.cost.moves + 5) }
-{
-    let numbers = thin_vec![alloc => 10, 11, 12]?;
-    list.splice(2, 4, numbers.into_iter()).finish(alloc)?;
-    Ok(())
-}
-
 /// Replaces the numbers at the indices `start..end` with `numbers`.
 ///
 /// # Errors
@@ -189,26 +168,6 @@ pub fn splice_one<A: Allocator, G: Growth>(
     ensures moves { list.new.cost.moves
         ≤ list.old.cost.moves + 1 + (length list.old.items - end) }
 {
-    match list.splice(start, end, once(number)).finish(alloc) {
-        Ok(()) => (),
-        Err(_refused) => unreachable!(),
-    }
-}
-
-/// Replaces all numbers from the index `start` on with `number`. No number follows the range and
-/// the list has a slot for `number`, so the call cannot fail.
-pub fn splice_end<A: Allocator, G: Growth>(
-    list: &mut ThinVec<u32, A, G>,
-    start: usize,
-    number: u32,
-    alloc: A,
-)
-    requires in_bounds { start ≤ length list.old.items }
-    requires room { start < list.old.capacity }
-    ensures items { list.new.items ≡ take start list.old.items ++ number ∷ [] }
-    ensures capacity { list.new.capacity ≡ list.old.capacity }
-{
-    let end = list.len();
     match list.splice(start, end, once(number)).finish(alloc) {
         Ok(()) => (),
         Err(_refused) => unreachable!(),

@@ -35,64 +35,6 @@ pub fn hand_over<T: Drop, A: Allocator, G: Growth>(
     Ok(())
 }
 
-/// Does what `hand_over` does, without a loop, for numbers. The range is removed from `list` when
-/// `drain` is dropped, at the end of its scope.
-///
-/// # Errors
-///
-/// Fails if there is no room for the numbers in `other`. On failure, both lists are unchanged.
-pub fn move_range<A: Allocator, G: Growth>(
-    list: &mut ThinVec<u32, A, G>,
-    start: usize,
-    end: usize,
-    other: &mut ThinVec<u32, A, G>,
-) -> Result<(), AllocError>
-    requires start_le_end { start ≤ end }
-    requires in_bounds { end ≤ length list.old.items }
-    ensures succeeds { HasRoomFor other.old (end - start) → IsOk result }
-    ensures items { OnOk result
-        (list.new.items ≡ take start list.old.items ++ drop end list.old.items) }
-    ensures other_items { OnOk result
-        (other.new.items ≡ other.old.items ++ slice_range list.old.items start end) }
-    ensures err { OnErr result (list.new ≡ list.old) }
-    ensures other_err { OnErr result (other.new ≡ other.old) }
-{
-    other.reserve(end - start)?;
-    let drain = list.drain(start, end);
-    other.extend_from_copies_reserved(drain.as_slice());
-    Ok(())
-}
-
-/// Moves the odd numbers of `list` to the end of `odd`, and the even numbers to the end of `even`.
-///
-/// # Errors
-///
-/// Fails if there is not enough room in `odd` or in `even`. On failure, all numbers of `list` are
-/// dropped, and none of them is appended.
-pub fn divide<A: Allocator, G: Growth>(
-    list: ThinVec<u32, A, G>,
-    odd: &mut ThinVec<u32, A, G>,
-    even: &mut ThinVec<u32, A, G>,
-) -> Result<(), ThinVecError>
-    ensures odd_items { OnOk result (odd.new.items
-        ≡ odd.old.items ++ filter (λ number. number % 2 == 1) list.items) }
-    ensures even_items { OnOk result (even.new.items
-        ≡ even.old.items ++ filter (λ number. not (number % 2 == 1)) list.items) }
-    ensures err { OnErr result
-        ((odd.new.items ≡ odd.old.items) × (even.new.items ≡ even.old.items)) }
-{
-    odd.reserve(list.len())?;
-    even.reserve(list.len())?;
-    for number in list {
-        if number % 2 == 1 {
-            odd.push_reserved(number);
-        } else {
-            even.push_reserved(number);
-        }
-    }
-    Ok(())
-}
-
 /// Moves the second half of the items of `list` to a new list.
 ///
 /// # Errors

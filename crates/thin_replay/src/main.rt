@@ -3,8 +3,8 @@
 //! forms of the lines.
 #![tactic(auto)]
 
-use replay::replay_error::ReplayError;
-use replay::{exit_code, replay};
+use programs::replay::replay_error::ReplayError;
+use programs::replay::{exit_code, replay};
 use std::alloc::Global;
 use std::io::{self, BufReader};
 use std::process::ExitCode;

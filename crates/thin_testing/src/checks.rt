@@ -71,10 +71,48 @@ pub fn counts(
 }
 
 /// Gives the value of a `Result` or an `Option`, and stops the test if there is none. The message
-/// has the line of the test, the expression and the error. The error of a check says what it found
-/// and what it wanted. A `?` prints the error alone, and takes longer to prove.
+/// has the expression and the error. The error of a check says what it found and what it wanted. A
+/// `?` prints the error alone, and takes longer to prove.
+///
+/// The most frequent checks are calls of functions of the module `asserts` of the test crate, which
+/// take a third of the time to prove: only a test may stop a program, so they cannot stand here.
 #[macro_export]
 macro_rules! check {
+    ($rt:expr; same($found:expr, $wanted:expr)) => {
+        crate::asserts::assert_same(&$rt, $found, $wanted, stringify!(same($found, $wanted)))
+    };
+    ($rt:expr; same_items($found:expr, $wanted:expr)) => {
+        crate::asserts::assert_same_items(
+            &$rt,
+            $found,
+            $wanted,
+            stringify!(same_items($found, $wanted)),
+        )
+    };
+    ($rt:expr; counts($refusing:expr, $requests:expr, $blocks:expr)) => {
+        crate::asserts::assert_counts(
+            &$rt,
+            $refusing,
+            $requests,
+            $blocks,
+            stringify!(counts($refusing, $requests, $blocks)),
+        )
+    };
+    ($rt:expr; holds($list:expr, $items:expr, $capacity:expr)) => {
+        crate::asserts::assert_holds(
+            &$rt,
+            $list,
+            $items,
+            $capacity,
+            stringify!(holds($list, $items, $capacity)),
+        )
+    };
+    ($rt:expr; has_len($list:expr, $len:expr)) => {
+        crate::asserts::assert_len(&$rt, $list, $len, stringify!(has_len($list, $len)))
+    };
+    ($rt:expr; list_of($alloc:expr, $items:expr)) => {
+        crate::asserts::made_list(&$rt, $alloc, $items, stringify!(list_of($alloc, $items)))
+    };
     ($rt:expr; $checked:expr) => {
         $checked.expect(&$rt, stringify!($checked))
     };

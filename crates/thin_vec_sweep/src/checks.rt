@@ -4,7 +4,7 @@ use crate::asserts::assert_right;
 use crate::sweep::{Calls, sweep};
 use crate::tests::Small;
 use std::process::Abort;
-use thin_testing::{Answer, At, Case, Claims, Due, Ledger, Wrong, check, same};
+use thin_testing::{Answer, At, Case, Claims, Due, Ledger, Wrong};
 use thin_vec::{Doubling, Growth, ThinVecError};
 
 // Three calls, which make as many requests as their numbers say.
@@ -34,9 +34,9 @@ impl<G: Growth> Calls<Small, G> for Requests {
 fn sweep_makes_each_call_and_refuses_each_request(rt: HostRuntime) {
     let ledger = Ledger::leaked(rt.alloc()).expect(&rt, "memory");
     let swept = sweep::<Requests, Small, Doubling, _>(&rt, ledger, &[3, 8], &[0, 1], 5);
-    check!(rt; same(swept, (56, 32)));
+    assert_eq!(rt; swept, (56, 32));
     let swept = sweep::<Requests, Small, Doubling, _>(&rt, ledger, &[3, 8], &[0], 1);
-    check!(rt; same(swept, (14, 8)));
+    assert_eq!(rt; swept, (14, 8));
 }
 
 // Returns a case of a list of two items and capacity 3.
@@ -117,7 +117,7 @@ fn detects_each_mistake(rt: HostRuntime) {
     let mut number: usize = 0;
     for due in &FOUND {
         let found = mistake(&rt, ledger, number).err().map(|wrong| wrong.what);
-        check!(rt; same((number, found), (number, *due)));
+        assert_eq!(rt; (number, found), (number, *due));
         number = number.saturating_add(1);
     }
 }
@@ -126,7 +126,7 @@ fn detects_each_mistake(rt: HostRuntime) {
 fn detects_a_block_of_a_wrong_size(rt: HostRuntime) {
     let ledger = Ledger::leaked(rt.alloc()).expect(&rt, "memory");
     let found = two_items(&rt, ledger, 0).check_live(2, 4);
-    check!(rt; same(found.err().map(|wrong| wrong.what), Some("bytes")));
+    assert_eq!(rt; found.err().map(|wrong| wrong.what), Some("bytes"));
 }
 
 #[test]
@@ -170,8 +170,8 @@ fn arguments_choose_each_index_range_number_and_pattern(rt: HostRuntime) {
         counts |= bit(case.count());
         patterns |= bit(kept(at) as usize);
     }
-    check!(rt; same((indices, ranges), (0b1_1111, 0x10_181c_1e1f)));
-    check!(rt; same((counts, patterns), (0x0002_022f, 0xffff)));
+    assert_eq!(rt; (indices, ranges), (0b1_1111, 0x10_181c_1e1f));
+    assert_eq!(rt; (counts, patterns), (0x0002_022f, 0xffff));
 }
 
 // Of long lists, the patterns from 0 to 7 keep some items, none, or all.
@@ -212,10 +212,10 @@ fn claimed<R: Abort>(
 #[test]
 fn claims_tell_the_bounds_that_are_asked_for(rt: HostRuntime) {
     let ledger = Ledger::leaked(rt.alloc()).expect(&rt, "memory");
-    check!(rt; same(claimed(&rt, ledger, 3, true), (3, Some(5))));
-    check!(rt; same(claimed(&rt, ledger, 3, false), (3, None)));
-    check!(rt; same(claimed(&rt, ledger, usize::MAX, true), (usize::MAX, None)));
+    assert_eq!(rt; claimed(&rt, ledger, 3, true), (3, Some(5)));
+    assert_eq!(rt; claimed(&rt, ledger, 3, false), (3, None));
+    assert_eq!(rt; claimed(&rt, ledger, usize::MAX, true), (usize::MAX, None));
     let items = [7, 8].to_vec(rt.alloc()).expect(&rt, "memory");
     let exact = Claims::exact(ledger, items).size_hint();
-    check!(rt; same((exact, ledger.hints.get()), ((2, Some(2)), 4)));
+    assert_eq!(rt; (exact, ledger.hints.get()), ((2, Some(2)), 4));
 }

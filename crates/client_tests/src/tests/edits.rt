@@ -1,6 +1,6 @@
-//! A test of the crate `editor`: an editor loses nothing if memory runs out, whichever request is
+//! A test of `programs::editor`: an editor loses nothing if memory runs out, whichever request is
 //! refused. The files `stdin` and `stdout` of the program `text_editor` test the commands.
-use editor::{Command, EditError, Editor};
+use programs::editor::{Command, EditError, Editor};
 use std::alloc::{Allocator, Global};
 use std::process::Abort;
 use thin_testing::Refusing;

@@ -12,7 +12,7 @@ use std::alloc::Allocator;
 use std::fmt::Debug;
 use std::process::Abort;
 use thin_rows::Rows;
-use thin_testing::{check, same};
+use thin_testing::check;
 
 /// Asserts how many rows the table has. The prover knows it afterwards.
 pub fn assert_rows<V, A: Allocator>(rt: &impl Abort, table: &Rows<V, A>, rows: usize)

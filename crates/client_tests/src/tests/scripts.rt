@@ -1,19 +1,16 @@
-//! Tests of the crate `replay`: the error messages, the exit status, and reads, writes and requests
+//! Tests of `programs::replay`: the error messages, the exit status, and reads, writes and requests
 //! that fail. The files `stdin` and `stdout` of the program `thin_replay` test the answers.
 use crate::tests::page::Page;
-use replay::answer::write_reply;
-use replay::line::Line;
-use replay::line_error::LineError;
-use replay::replay_error::ReplayError;
-use replay::{exit_code, lacks_memory, replay};
+use programs::replay::line::Line;
+use programs::replay::line_error::LineError;
+use programs::replay::replay_error::ReplayError;
+use programs::replay::{exit_code, replay};
 use std::alloc::{AllocError, Allocator, Global};
 use std::cell::Cell;
 use std::fmt::Display;
 use std::io::{self, BufReader, ErrorKind, Read};
 use std::process::Abort;
-use thin_runner::command::Reply;
-use thin_testing::{Lender, Refusing, check, same};
-use thin_vec::{ThinVecError, thin_vec};
+use thin_testing::{Lender, Refusing, check};
 
 // Asserts what is said about a line that has no form.
 fn assert_wrong(rt: &impl Abort, alloc: Global, line: &str, told: &str) {
@@ -72,21 +69,19 @@ fn says_what_is_wrong_with_a_line(rt: HostRuntime) {
 // How many bytes a call to `read` reads.
 const CHUNK: usize = 16;
 
-// A reader of `rest`. The calls to `read` are numbered from 1, and call number `failing` fails with
-// an error of the given kind.
+// A reader of `rest`. The calls to `read` are numbered from 1, and call number `failing` fails.
 #[derive(Drop)]
 struct Script<'a> {
     rest: &'a [u8],
     calls: usize,
     failing: usize,
-    kind: ErrorKind,
 }
 
 impl Read for Script<'_> {
     fn read(&mut self, buf: &mut [u8]) -> io::Result<usize> {
         self.calls = self.calls.saturating_add(1);
         if self.calls == self.failing {
-            return Err(io::Error::from(self.kind));
+            return Err(io::Error::from(ErrorKind::BrokenPipe));
         }
         self.rest.read(buf)
     }
@@ -167,7 +162,6 @@ fn replayed_from<A: Allocator + Copy>(
         rest: input,
         calls: 0,
         failing: unread,
-        kind: ErrorKind::BrokenPipe,
     };
     let reader = check!(rt; BufReader::with_capacity(alloc, CHUNK, script));
     let answered = replay(source, reader, page);
@@ -196,22 +190,6 @@ fn assert_replayed(rt: &impl Abort, alloc: Global, input: &[u8], wanted: &str, t
     check!(rt; same(text.as_str(), wanted));
 }
 
-#[test]
-fn skips_blank_lines_and_white_space(rt: HostRuntime) {
-    for input in ["", "\n\n"] {
-        assert_replayed(&rt, rt.alloc(), input.as_bytes(), "", "");
-    }
-    let answers = "done; length 1; capacity 4\nitems [1]\n";
-    for input in [
-        "\n \t\npush 1\n\nitems",
-        "push 1\nitems\n\n",
-        "\r\n  push \t 1\r\nitems \t\r\n",
-        "\u{2003}\npush\u{2003}1\n\titems\n \n",
-    ] {
-        assert_replayed(&rt, rt.alloc(), input.as_bytes(), answers, "");
-    }
-}
-
 // Replays the lines `right` and two wrong ones. Asserts that only the first of these, line number
 // `number`, is named.
 fn assert_first_named(rt: &impl Abort, alloc: Global, right: &str, number: u32) {
@@ -229,80 +207,7 @@ fn carries_out_no_command_if_a_line_is_wrong(rt: HostRuntime) {
     let mut right = String::new(rt.alloc());
     for number in 1..=30 {
         assert_first_named(&rt, rt.alloc(), right.as_str(), number);
-        check!(rt; right.push_str(if number % 3 == 0 { "\n" } else { "push 1\n" }));
-    }
-}
-
-// Commands for which there is not enough memory, in a list of one item.
-static TOO_LARGE: [&str; 6] = [
-    "extract_if 0 0 1152921504606846976 1 0 0",
-    "reserve 1152921504606846970",
-    "reserve_exact 1152921504606846970",
-    "resize 1152921504606846970 7",
-    "extend 1152921504606846970 1",
-    "splice 0 1 fb 1152921504606846970 1 2 3",
-];
-
-// The command ends the program, after the answers to the lines before it.
-#[test]
-fn stops_at_a_reply_without_memory(rt: HostRuntime) {
-    let (alloc, wanted) = (rt.alloc(), "done; length 1; capacity 4\n");
-    for command in &TOO_LARGE {
-        let input = check!(rt; format!(in alloc; "push 1\n\n{command}\npop\n"));
-        assert_replayed(
-            &rt,
-            alloc,
-            input.as_bytes(),
-            wanted,
-            "line 3: out of memory",
-        );
-    }
-}
-
-// Returns what is written of the reply, and whether all of it is.
-fn written(alloc: Global, reply: Reply<u64>) -> (String, bool) {
-    let mut text = String::new(alloc);
-    let mut page = Page {
-        text: &mut text,
-        calls: 0,
-        failing: 0,
-    };
-    let is_ok = write_reply(&mut page, reply).is_ok();
-    drop(page);
-    (text, is_ok)
-}
-
-// Asserts whether the reply says that memory was missing, and that its cause and `rest` are written
-// of it.
-fn assert_reply(
-    rt: &impl Abort,
-    alloc: Global,
-    reply: Reply<u64>,
-    cause: ThinVecError,
-    lacks: bool,
-    rest: &str,
-) {
-    check!(rt; same(lacks_memory(&reply), lacks));
-    let (text, is_ok) = written(alloc, reply);
-    let wanted = check!(rt; format!(in alloc; "failed: {cause}{rest}"));
-    check!(rt; same((text.as_str(), is_ok), (wanted.as_str(), true)));
-}
-
-// No script has all of these replies: `replay` ends at one that lacks memory, and the capacity for
-// a `push` does not overflow.
-#[test]
-fn writes_the_replies_of_refused_commands(rt: HostRuntime) {
-    let alloc = rt.alloc();
-    for (cause, lacks) in [
-        (ThinVecError::OutOfMemory, true),
-        (ThinVecError::CapacityOverflow, false),
-    ] {
-        assert_reply(&rt, alloc, Reply::Refused(cause), cause, lacks, "");
-        let returned = Reply::Returned(7, cause);
-        assert_reply(&rt, alloc, returned, cause, lacks, "; returned 7");
-        let other = Reply::Other(check!(rt; thin_vec![alloc => 1, 2]), Some(cause));
-        let rest = "; other [1, 2]; capacity 2";
-        assert_reply(&rt, alloc, other, cause, lacks, rest);
+        check!(rt; right.push_str(if number % 3 == 0 { " \t\n" } else { "push 1\n" }));
     }
 }
 
@@ -394,41 +299,6 @@ fn fails_if_a_read_fails(rt: HostRuntime) {
     }
 }
 
-// Reads from a reader that fails. Returns the kind of the error.
-fn kind_of_error(alloc: Global, kind: ErrorKind) -> io::Result<Option<ErrorKind>> {
-    let mut text = String::new(alloc);
-    let page = Page {
-        text: &mut text,
-        calls: 0,
-        failing: 0,
-    };
-    let script = Script {
-        rest: &[],
-        calls: 0,
-        failing: 1,
-        kind,
-    };
-    match replay(alloc, BufReader::with_capacity(alloc, CHUNK, script)?, page) {
-        Err(ReplayError::Io(error)) => Ok(Some(error.kind())),
-        _ => Ok(None),
-    }
-}
-
-// An error of the kind `InvalidData` would be that of a line that is not UTF-8.
-#[test]
-fn returns_the_error_of_a_read(rt: HostRuntime) {
-    for kind in [
-        ErrorKind::BrokenPipe,
-        ErrorKind::OutOfMemory,
-        ErrorKind::UnexpectedEof,
-        ErrorKind::PermissionDenied,
-        ErrorKind::Other,
-    ] {
-        let found = check!(rt; kind_of_error(rt.alloc(), kind));
-        check!(rt; same(found, Some(kind)));
-    }
-}
-
 // Replays `input`. Asserts that its answers take more than one call to `write` if `is_long` is
 // true, and one otherwise, and that the program fails at a call that fails, whichever call it is.
 // What is written is then a beginning of the answers: the writer tries once more to write those
@@ -491,34 +361,4 @@ fn fails_if_a_write_fails(rt: HostRuntime) {
             }
         }
     }
-}
-
-// Returns the numbers from `first` to below `end`, each after a space.
-fn words_of(alloc: Global, first: u64, end: u64) -> Result<String, AllocError> {
-    let mut words = String::new(alloc);
-    for item in first..end {
-        words.push_str(format!(in alloc; " {item}")?.as_str())?;
-    }
-    Ok(words)
-}
-
-#[test]
-fn prints_each_item_of_a_long_reply(rt: HostRuntime) {
-    let alloc = rt.alloc();
-    let items: Vec<u64> = check!(rt; (0..300).collect(alloc));
-    let answers: Vec<Option<u64>> = check!(rt; (0..300).map(|item| Some(item)).collect(alloc));
-    let words = check!(rt; words_of(alloc, 0, 300));
-    let input = check!(rt; format!(in alloc;
-        "extend 18446744073709551615{words}\nextend_from_slice{words}\nitems\nclone\n\
-        extract_if 0 300 300 1 0 0\nappend{words}\nsplit_off 0\n"
-    ));
-    let wanted = check!(rt; format!(in alloc;
-        "failed: capacity overflow; answers []; held []; in hand None; rest{words}; \
-        length 0; capacity 0\ndone; length 300; capacity 300\nitems {items:?}\n\
-        list {items:?}; capacity 300; length 300; capacity 300\n\
-        answers {answers:?}; length 0; capacity 300\n\
-        other []; capacity 512; length 300; capacity 300\n\
-        list {items:?}; capacity 300; length 0; capacity 300\n"
-    ));
-    assert_replayed(&rt, alloc, input.as_bytes(), wanted.as_str(), "");
 }

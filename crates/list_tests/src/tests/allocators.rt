@@ -9,10 +9,7 @@ use std::io;
 use std::process::Abort;
 use std::rc::Rc;
 use thin_runner::hinted::Hinted;
-use thin_testing::{
-    Counted, Ledger, Lender, Numbered, Refusing, check, counts, has_len, list_of, numbered_items,
-    same, splice,
-};
+use thin_testing::{Counted, Ledger, Lender, Numbered, Refusing, check, numbered_items, splice};
 use thin_vec::{ThinVec, ThinVecError, thin_vec};
 
 // Makes a `Vec` of the items of the list with the allocator `alloc`, by one of six calls. The

@@ -1,8 +1,7 @@
 //! Tests of the checks of `thin_testing`: each finds what is wrong, and `check!` stops the test.
 use std::fmt::{self, Debug};
 use thin_testing::{
-    Misprinted, Refusing, check, counts, has_len, holds, list_of, prints, prints_as, same,
-    same_items,
+    Misprinted, Refusing, check, counts, has_len, holds, prints, prints_as, same, same_items,
 };
 
 #[test]

@@ -2,7 +2,7 @@
 //! a variable that it borrows.
 use std::alloc::Global;
 use std::cell::Cell;
-use thin_testing::{Refusing, check, holds, list_of, same, same_items};
+use thin_testing::{Refusing, check};
 use thin_vec::ThinVec;
 
 // Appends the two digits of the item to the decimal number in `asked`, and returns the first digit.

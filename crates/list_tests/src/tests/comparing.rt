@@ -11,7 +11,7 @@ use std::alloc::Global;
 use std::cmp::Ordering;
 use std::hash::{DefaultHasher, Hash, Hasher};
 use std::process::Abort;
-use thin_testing::{check, list_of, same};
+use thin_testing::check;
 use thin_vec::{ThinVec, ThinVecError};
 
 // A number of which only the last decimal digit is compared and hashed.

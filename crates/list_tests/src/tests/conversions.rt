@@ -1,7 +1,7 @@
 //! Tests of conversions from and to arrays, vectors and boxed slices, granted and refused.
 use std::alloc::Global;
 use std::process::Abort;
-use thin_testing::{Refusing, check, counts, holds, list_of, same, same_items};
+use thin_testing::{Refusing, check};
 use thin_vec::{ThinVec, ThinVecError};
 
 const OUT_OF_MEMORY: ThinVecError = ThinVecError::OutOfMemory;

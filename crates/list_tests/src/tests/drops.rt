@@ -1,7 +1,7 @@
 //! A test of when the filters of a list drop an item that they remove.
 use std::cell::Cell;
 use std::process::Abort;
-use thin_testing::{Counted, Ledger, List, check, filled_list, same};
+use thin_testing::{Counted, Ledger, List, check, filled_list};
 use thin_vec::Doubling;
 
 // Counts a call to a closure that keeps none of the items that it tests, of a list of `len`, and

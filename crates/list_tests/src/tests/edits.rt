@@ -3,7 +3,7 @@
 use std::alloc::Global;
 use std::mem;
 use std::process::Abort;
-use thin_testing::{Refusing, check, has_len, holds, list_of, same, same_items};
+use thin_testing::{Refusing, check};
 use thin_vec::ThinVec;
 
 fn assert_collect_removes(rt: &impl Abort, alloc: Global, list: &mut ThinVec<i32>) {

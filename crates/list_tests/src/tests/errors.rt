@@ -4,7 +4,7 @@ use std::error::Error;
 use std::fmt::{self, Debug};
 use std::io;
 use std::process::Abort;
-use thin_testing::{Counted, Ledger, check, counted_list, prints_as, same};
+use thin_testing::{Counted, Ledger, check, counted_list, prints_as};
 use thin_vec::{CollectRefused, ExtendRefused, Rejected, SpliceRefused, ThinVecError};
 
 #[test]

@@ -3,7 +3,7 @@ ghost use Rattle.std.specs.Iterator.{at_most};
 ghost use Rattle.std.specs.Prelude.{◌+◌, length};
 
 use std::cell::Cell;
-use thin_testing::{check, holds, list_of, same};
+use thin_testing::check;
 use thin_vec::ThinVec;
 
 #[test]

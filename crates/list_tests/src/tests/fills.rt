@@ -3,7 +3,7 @@ ghost use Rattle.std.specs.Prelude.{⊤};
 
 use std::alloc::{AllocError, Global};
 use std::process::Abort;
-use thin_testing::{Counted, Ledger, Refusing, check, same};
+use thin_testing::{Counted, Ledger, Refusing, check};
 use thin_vec::{ThinVec, ThinVecError};
 
 // The number of the value with which a list is filled.

@@ -6,7 +6,7 @@ ghost use Rattle.thin_block.specs.Capacity.{items_offset, fits as fits_at};
 use std::alloc::Global;
 use std::process::Abort;
 use thin_block::{Growth, PowerBytes, first_capacity, fits, next_capacity};
-use thin_testing::{check, same, same_items};
+use thin_testing::check;
 use thin_vec::ThinVec;
 
 #[test]

@@ -5,7 +5,7 @@
 //! allocated bytes, so they see which blocks are padded.
 use std::alloc::Allocator;
 use std::process::Abort;
-use thin_testing::{Counted, Ledger, Lender, Numbered, block_bytes, check, least_power, same};
+use thin_testing::{Counted, Ledger, Lender, Numbered, block_bytes, check, least_power};
 use thin_vec::{PowerBytes, ThinVec, ThinVecError};
 
 // Pushes items that are made from their indices until the list has `len` items.

@@ -2,7 +2,7 @@
 //! the memory is refused, how many requests it makes, and what it drops.
 use std::cell::Cell;
 use std::process::Abort;
-use thin_testing::{Counted, Ledger, Refusing, check, counts, holds, same};
+use thin_testing::{Counted, Ledger, Refusing, check};
 use thin_vec::{ThinVec, ThinVecError, thin_vec};
 
 // Returns `value`, and appends `digit` to the decimal number in `order`.

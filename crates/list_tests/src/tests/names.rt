@@ -11,7 +11,7 @@ use std::io::Write;
 use std::iter::{ExactSizeIterator, Extend, FromIterator, FusedIterator, empty};
 use std::marker::{Send, Sync};
 use std::ops::{DerefSlice, DerefSliceMut, Index, IndexMut};
-use thin_testing::{check, same};
+use thin_testing::check;
 use thin_vec::{
     Doubling, ExtractIf, Growth, IntoIter, PowerBytes, Rejected, ThinVec, ThinVecError, fits,
     thin_vec,

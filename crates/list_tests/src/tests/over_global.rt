@@ -6,7 +6,7 @@ ghost use Rattle.std.specs.Prelude.{◌*◌, ◌<◌, ◌^◌};
 use std::alloc::Global;
 use std::io;
 use std::process::Abort;
-use thin_testing::{Ledger, Numbered, check, same};
+use thin_testing::{Ledger, Numbered, check};
 use thin_vec::ThinVec;
 
 // The size of each block in bytes, 8 GiB, of which little is written. A process can have 2^47

@@ -1,5 +1,5 @@
 //! Tests of the allocator `Refusing`: which requests it refuses, and what it counts.
-use thin_testing::{Refusing, check, counts, same};
+use thin_testing::{Refusing, check};
 
 #[test]
 fn counts_live_blocks(rt: HostRuntime) {

@@ -3,9 +3,7 @@ ghost use Rattle.std.specs.Prelude.{◌≤◌, length};
 
 use std::process::Abort;
 use thin_runner::hinted::Hinted;
-use thin_testing::{
-    Lender, Refusing, check, counts, has_len, holds, list_of, same, same_items, splice,
-};
+use thin_testing::{Lender, Refusing, check, splice};
 use thin_vec::{SpliceRefused, ThinVecError};
 
 const NEW: [i32; 5] = [10, 11, 12, 13, 14];

@@ -4,9 +4,7 @@ use std::alloc::AllocError;
 use std::io::{self, ErrorKind, Write};
 use std::mem;
 use std::process::Abort;
-use thin_testing::{
-    Counted, Ledger, Lender, Refusing, check, counts, holds, list_of, same, same_items,
-};
+use thin_testing::{Counted, Ledger, Lender, Refusing, check};
 use thin_vec::ThinVec;
 
 // A list whose items and requests a ledger counts.

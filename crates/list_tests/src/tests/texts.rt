@@ -3,7 +3,7 @@
 use std::alloc::{Allocator, Global};
 use std::fmt::{self, Debug};
 use std::process::Abort;
-use thin_testing::{Refusing, check, has_len, list_of, prints, prints_as, same};
+use thin_testing::{Refusing, check, prints, prints_as};
 use thin_vec::ThinVec;
 
 // An iterator of the given name with the items that it has left, which is printed as one of

@@ -7,9 +7,7 @@ use std::convert::AsSlice;
 use std::hash::{DefaultHasher, Hash};
 use std::ops::Bound;
 use std::process::Abort;
-use thin_testing::{
-    Counted, Ledger, Lender, Refusing, check, counts, has_len, holds, list_of, same,
-};
+use thin_testing::{Counted, Ledger, Lender, Refusing, check};
 use thin_vec::{ThinVec, ThinVecError, bounds};
 
 // Clones `source` into the list at the second try. The request of the first try is refused.

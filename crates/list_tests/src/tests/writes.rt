@@ -2,7 +2,7 @@
 use std::alloc::Global;
 use std::io::{ErrorKind, IoSlice, Write};
 use std::process::Abort;
-use thin_testing::{Refusing, check, list_of, same};
+use thin_testing::{Refusing, check};
 use thin_vec::ThinVec;
 
 // Asserts that `write_all` and `write` fail if the memory is refused, and leave the list.

@@ -3,7 +3,7 @@ use crate::tests::rows::assert_row;
 use std::alloc::Global;
 use std::process::Abort;
 use thin_rows::Rows;
-use thin_testing::{Counted, Ledger, check, same};
+use thin_testing::{Counted, Ledger, check};
 
 // Asserts that as many values are alive as the table has entries.
 fn assert_live<V>(rt: &impl Abort, ledger: &Ledger, table: &Rows<V>) {

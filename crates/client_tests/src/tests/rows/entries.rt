@@ -2,7 +2,7 @@
 use crate::tests::rows::assert_rows;
 use std::marker::{Send, Sync};
 use thin_rows::Rows;
-use thin_testing::{Lender, Refusing, check, counts, same, same_items};
+use thin_testing::{Lender, Refusing, check};
 
 type Table = Rows<u32, Lender>;
 

@@ -4,7 +4,7 @@ use std::alloc::{Allocator, Global};
 use std::fmt::Debug;
 use std::process::Abort;
 use thin_rows::{Rows, ThinVecError};
-use thin_testing::{Lender, Refusing, check, counts, same, same_items};
+use thin_testing::{Lender, Refusing, check};
 
 // Removes a value, and asserts that it was `old`.
 fn assert_removed<V: PartialEq + Debug + Drop, A: Allocator>(

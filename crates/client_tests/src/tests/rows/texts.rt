@@ -4,7 +4,7 @@ use std::alloc::Global;
 use std::collections::BTreeMap;
 use std::process::Abort;
 use thin_rows::Rows;
-use thin_testing::{Lender, Refusing, check, prints, prints_as, same};
+use thin_testing::{Lender, Refusing, check, prints, prints_as};
 
 type Map = BTreeMap<usize, i32>;
 

@@ -4,7 +4,7 @@ use crate::tests::rows::assert_row;
 use std::alloc::{AllocError, Allocator};
 use std::process::Abort;
 use thin_rows::{Rows, ThinVecError};
-use thin_testing::{Counted, Ledger, Lender, Refusing, check, counts, same};
+use thin_testing::{Counted, Ledger, Lender, Refusing, check};
 
 // The numbers of rows, and of entries in each row with an odd number.
 type Size = (usize, usize);

@@ -7,7 +7,7 @@ use crate::tests::runner::shown::{list_text, reply_text};
 use std::alloc::{AllocError, Global};
 use std::process::Abort;
 use thin_runner::command::{Command, Reply};
-use thin_testing::{Ledger, Numbered, check, same};
+use thin_testing::{Ledger, Numbered, check};
 use thin_vec::Doubling;
 
 // What each command does on a list of the items 1, 2, 2, 3. A line has the capacity before and the

@@ -2,11 +2,10 @@
 //! steps, in each order of ends, one step past the range among them.
 use crate::tests::runner::judges::Digits;
 use crate::tests::runner::made::{Asked, Item, List, Told, assert_clean, is_one, room, steps};
-use std::alloc::Global;
 use std::process::Abort;
 use thin_runner::command::{Command, Reply};
 use thin_runner::runner::step;
-use thin_testing::{Ledger, Lender, Numbered, check, filled_list, numbered_items, same};
+use thin_testing::{Ledger, Lender, Numbered, check, filled_list, numbered_items};
 
 // The number of the first new item of a splice.
 const NEW: u64 = 200;
@@ -299,29 +298,11 @@ fn assert_long_ranges<T: Numbered>(rt: &impl Abort, ledger: &'static Ledger) {
     }
 }
 
-// Executes the edits on lists of `T`.
-fn assert_edits<T: Numbered>(rt: &impl Abort, alloc: Global) {
-    let ledger = check!(rt; Ledger::leaked(alloc));
-    assert_ranges::<T>(rt, ledger);
-    assert_long_ranges::<T>(rt, ledger);
-}
-
 #[test]
 fn edits_of_counted_items_after_each_number_of_steps(rt: HostRuntime) {
-    assert_edits::<Item>(&rt, rt.alloc());
-}
-
-#[test]
-fn edits_of_units_and_numbers_after_each_number_of_steps(rt: HostRuntime) {
-    assert_edits::<()>(&rt, rt.alloc());
-    assert_edits::<u8>(&rt, rt.alloc());
-    assert_edits::<i32>(&rt, rt.alloc());
-}
-
-#[test]
-fn edits_of_large_and_aligned_items_after_each_number_of_steps(rt: HostRuntime) {
-    assert_edits::<[u64; 40]>(&rt, rt.alloc());
-    assert_edits::<u128>(&rt, rt.alloc());
+    let ledger = check!(rt; Ledger::leaked(rt.alloc()));
+    assert_ranges::<Item>(&rt, ledger);
+    assert_long_ranges::<Item>(&rt, ledger);
 }
 
 // Drains items 1 to 4 of six, after each sequence of at most five steps. Also drains nothing at the

@@ -4,7 +4,7 @@ use std::process::Abort;
 use thin_runner::command::{Command, Reply, Step};
 use thin_runner::judge::Judge;
 use thin_runner::runner::run;
-use thin_testing::{Counted, Ledger, Lender, Numbered, check, same};
+use thin_testing::{Counted, Ledger, Lender, Numbered, check};
 use thin_vec::{Growth, ThinVec, ThinVecError};
 
 /// An item that the ledger counts. A clone of it is a request.

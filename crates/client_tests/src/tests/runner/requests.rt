@@ -5,7 +5,7 @@ use std::alloc::Allocator;
 use std::process::Abort;
 use thin_runner::command::{Command, Reply, Step};
 use thin_runner::runner::{run, step};
-use thin_testing::{Lender, Refusing, check, list_of, same};
+use thin_testing::{Lender, Refusing, check};
 use thin_vec::ThinVec;
 
 // A judge that answers `false`.
@@ -43,7 +43,7 @@ fn assert_pops(rt: &impl Abort, lender: Lender, list: &mut ThinVec<i32, Lender>,
 #[test]
 fn run_makes_no_request_if_there_is_room_for_its_replies(rt: HostRuntime) {
     let lender = check!(rt; Refusing::leaked(rt.alloc(), 0));
-    let mut list = check!(rt; list_of(lender, &[1, 2]));
+    let mut list = check!(rt; ThinVec::from_copies(lender, &[1, 2]));
     for count in [1, 2, 9] {
         assert_pops(&rt, lender, &mut list, count);
     }
@@ -69,7 +69,7 @@ fn nth_command<A: Allocator + Copy>(rt: &impl Abort, number: u32, alloc: A) -> C
 
 // Executes a command on a list over `own` by `step`, to which it passes `other`.
 fn reply_on(rt: &impl Abort, own: Lender, other: Lender, number: u32) -> Reply<i32, Lender> {
-    let mut list = check!(rt; list_of(own, &[1, 2, 3]));
+    let mut list = check!(rt; ThinVec::from_copies(own, &[1, 2, 3]));
     let command = nth_command(rt, number, own);
     own.refuse(0);
     step(other, &mut list, command, &NEVER)
@@ -100,7 +100,7 @@ fn fill<A: Allocator>(rt: &impl Abort, reply: &mut Reply<i32, A>) {
 fn a_reply_to_a_stopped_extend_uses_the_allocator_passed(rt: HostRuntime) {
     let own = check!(rt; Refusing::leaked(rt.alloc(), 0));
     let other = check!(rt; Refusing::leaked(rt.alloc(), 0));
-    let mut list = check!(rt; list_of(own, &[1, 2, 3]));
+    let mut list = check!(rt; ThinVec::from_copies(own, &[1, 2, 3]));
     let command = Command::Extend(Vec::new(own), usize::MAX);
     own.refuse(0);
     let mut reply = step(other, &mut list, command, &NEVER);

@@ -1,16 +1,14 @@
-//! Commands on long lists, on lists of several item types and under several growth rules, with
-//! requests refused. As in `thin_vec_sweep`, the list itself says what is right. Also runs of
-//! thousands of commands.
+//! Commands on long lists, and under a growth rule of the tests, with requests refused. As in
+//! `thin_vec_sweep`, the list itself says what is right. Also runs of thousands of commands.
 use crate::tests::runner::judges::{Digits, TURNS};
 use crate::tests::runner::made::{Ran, assert_clean, room, run_single, steps};
 use std::process::Abort;
 use thin_runner::command::{Command, Reply};
 use thin_runner::runner::run;
 use thin_testing::{
-    Counted, CountedWord, Ledger, Lender, List, Numbered, Threefold, check, filled_list,
-    numbered_items, same,
+    Counted, Ledger, Lender, List, Numbered, Threefold, check, filled_list, numbered_items,
 };
-use thin_vec::{Doubling, Growth, PowerBytes, ThinVec, ThinVecError};
+use thin_vec::{Doubling, Growth, ThinVec, ThinVecError};
 
 // The steps of the commands: each fourth step is from the back.
 const FOURTHS: u64 = 0x1111_1111_1111_1111;
@@ -129,11 +127,8 @@ fn assert_commands<T: Numbered, G: Growth>(rt: &impl Abort, ledger: &'static Led
 }
 
 #[test]
-fn commands_of_each_growth_rule_request_what_they_need(rt: HostRuntime) {
+fn commands_under_another_growth_rule_request_what_they_need(rt: HostRuntime) {
     let ledger = check!(rt; Ledger::leaked(rt.alloc()));
-    assert_commands::<(), Doubling>(&rt, ledger, 40);
-    assert_commands::<[u8; 3], Threefold>(&rt, ledger, 40);
-    assert_commands::<CountedWord<'static>, PowerBytes>(&rt, ledger, 40);
     assert_commands::<Counted<'static, u64>, Threefold>(&rt, ledger, 40);
 }
 

@@ -1,6 +1,7 @@
 //! Prints replies and lists.
 use crate::tests::runner::made::{Asked, Item, List, Told};
 use std::alloc::{AllocError, Global};
+use std::fmt::Debug;
 use thin_runner::command::{Command, Reply};
 
 /// Prints the items of the list and its capacity.
@@ -13,14 +14,12 @@ pub fn list_text(alloc: Global, list: &List<Item>) -> Result<String, AllocError>
 pub fn reply_text(alloc: Global, reply: Told<Item>) -> Result<String, AllocError> {
     match reply {
         Reply::Done => format!(in alloc; "Done"),
-        Reply::Item(item) => format!(in alloc; "Item({item:?})"),
-        Reply::Answers(answers) => format!(in alloc; "Answers({answers:?})"),
-        Reply::List(list) => format!(in alloc; "List({list:?}, {})", list.capacity()),
-        Reply::Other(list, cause) => {
-            format!(in alloc; "Other({list:?}, {}, {cause:?})", list.capacity())
-        }
-        Reply::Returned(item, cause) => format!(in alloc; "Returned({item:?}, {cause:?})"),
-        Reply::Refused(cause) => format!(in alloc; "Refused({cause:?})"),
+        Reply::Item(item) => text_of_one(alloc, "Item", &item),
+        Reply::Answers(answers) => text_of_one(alloc, "Answers", &answers),
+        Reply::List(list) => text_of(alloc, "List", (&list, list.capacity())),
+        Reply::Other(list, cause) => text_of(alloc, "Other", (&list, list.capacity(), cause)),
+        Reply::Returned(item, cause) => text_of(alloc, "Returned", (&item, cause)),
+        Reply::Refused(cause) => text_of_one(alloc, "Refused", &cause),
         Reply::Stopped {
             answers,
             cause,
@@ -29,7 +28,7 @@ pub fn reply_text(alloc: Global, reply: Told<Item>) -> Result<String, AllocError
             rest,
         } => {
             let rest: Vec<Item> = rest.collect(alloc)?;
-            format!(in alloc; "Stopped({answers:?}, {cause:?}, {held:?}, {in_hand:?}, {rest:?})")
+            text_of(alloc, "Stopped", (&answers, cause, &held, &in_hand, &rest))
         }
         Reply::OutOfRange(command) => {
             let command = command_text(alloc, &command)?;
@@ -41,20 +40,26 @@ pub fn reply_text(alloc: Global, reply: Told<Item>) -> Result<String, AllocError
 // Prints a command whose index or range can be out of bounds, with all that it owns.
 fn command_text(alloc: Global, command: &Asked<Item>) -> Result<String, AllocError> {
     match command {
-        Command::Insert(index, item) => format!(in alloc; "Insert({index}, {item:?})"),
-        Command::Remove(index) => format!(in alloc; "Remove({index})"),
-        Command::SwapRemove(index) => format!(in alloc; "SwapRemove({index})"),
-        Command::Set(index, item) => format!(in alloc; "Set({index}, {item:?})"),
-        Command::SplitOff(at) => format!(in alloc; "SplitOff({at})"),
-        Command::Drain(start, end, steps) => {
-            format!(in alloc; "Drain({start}, {end}, {steps:?})")
-        }
-        Command::ExtractIf(start, end, count) => {
-            format!(in alloc; "ExtractIf({start}, {end}, {count})")
-        }
+        Command::Insert(index, item) => text_of(alloc, "Insert", (index, item)),
+        Command::Remove(index) => text_of_one(alloc, "Remove", index),
+        Command::SwapRemove(index) => text_of_one(alloc, "SwapRemove", index),
+        Command::Set(index, item) => text_of(alloc, "Set", (index, item)),
+        Command::SplitOff(at) => text_of_one(alloc, "SplitOff", at),
+        Command::Drain(start, end, steps) => text_of(alloc, "Drain", (start, end, steps)),
+        Command::ExtractIf(start, end, count) => text_of(alloc, "ExtractIf", (start, end, count)),
         Command::Splice(start, end, steps, items, lower) => {
-            format!(in alloc; "Splice({start}, {end}, {steps:?}, {items:?}, {lower})")
+            text_of(alloc, "Splice", (start, end, steps, items, lower))
         }
         _ => format!(in alloc; "a command without an index"),
     }
+}
+
+// Prints a name and several fields, which are a tuple.
+fn text_of<T: Debug + Drop>(alloc: Global, name: &str, fields: T) -> Result<String, AllocError> {
+    format!(in alloc; "{name}{fields:?}")
+}
+
+// Prints a name and its only field.
+fn text_of_one<T: Debug>(alloc: Global, name: &str, field: &T) -> Result<String, AllocError> {
+    format!(in alloc; "{name}({field:?})")
 }

@@ -8,7 +8,7 @@ use std::process::Abort;
 use thin_runner::command::Command;
 use thin_runner::judge::Judge;
 use thin_runner::runner::step;
-use thin_testing::{Ledger, Lender, Numbered, check, numbered_items, same};
+use thin_testing::{Ledger, Lender, Numbered, check, numbered_items};
 use thin_vec::{ThinVec, ThinVecError};
 
 // Returns a command of the run.

@@ -2,7 +2,7 @@
 use std::alloc::Global;
 use std::mem::size_of;
 use std::process::Abort;
-use thin_testing::{Lender, Refusing, check, holds, same};
+use thin_testing::{Lender, Refusing, check};
 use thin_vec::{ThinVec, ThinVecError};
 
 #[test]

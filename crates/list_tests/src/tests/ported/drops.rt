@@ -1,6 +1,6 @@
 //! When items are dropped: each one once. Dropping an empty list makes no request.
 use std::iter::once;
-use thin_testing::{Counted, Ledger, Refusing, check, counted_list, same};
+use thin_testing::{Counted, Ledger, Refusing, check, counted_list};
 use thin_vec::ThinVec;
 
 #[test]

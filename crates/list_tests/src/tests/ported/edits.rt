@@ -6,7 +6,7 @@ use std::iter::empty;
 use std::ops::Bound;
 use std::ops::Bound::{Excluded, Included, Unbounded};
 use std::process::Abort;
-use thin_testing::{check, has_len, holds, list_of, same, same_items};
+use thin_testing::check;
 use thin_vec::{Drain, bounds};
 
 type Range = (Bound<usize>, Bound<usize>);

@@ -1,7 +1,7 @@
 //! The iterator `IntoIter`.
 use std::alloc::Global;
 use std::process::Abort;
-use thin_testing::{check, holds, list_of, same, same_items};
+use thin_testing::{check, list_of};
 use thin_vec::{IntoIter, ThinVec, ThinVecError};
 
 #[test]

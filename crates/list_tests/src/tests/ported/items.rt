@@ -1,6 +1,6 @@
 //! The items after each call.
 use crate::tests::ported::boxes_of;
-use thin_testing::{check, holds, list_of, same, same_items};
+use thin_testing::check;
 use thin_vec::ThinVec;
 
 #[test]

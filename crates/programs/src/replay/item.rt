@@ -1,0 +1,15 @@
+//! The type of the items. With another file in the place of this one, the lists have other items.
+ghost use Rattle.std.specs.Str.Parse.{ParsesUnsigned};
+
+use crate::replay::line_error::LineError;
+use crate::replay::words::number_of;
+
+/// An item of a list.
+pub type Item = u64;
+
+/// Parses a word as an item.
+pub fn item_of(word: &str) -> Result<Item, LineError>
+    ensures parses { ParsesUnsigned 64 10 word.now result }
+{
+    number_of(word, "ITEM")
+}
