@@ -1,4 +1,5 @@
-//! The sweeps of all calls for all item types. Each test finishes within seconds.
+//! The sweeps: all calls for some item types, and for the others the calls that make a list grow or
+//! shrink. Each test finishes within seconds.
 ghost use Rattle.std.specs.Mem.{type_size};
 ghost use Rattle.std.specs.Prelude.{◌*◌, ◌<◌, ◌^◌};
 
@@ -63,7 +64,7 @@ fn sweep_all<T: Numbered, R: Abort>(rt: &R, alloc: Global, long: &[usize]) {
 }
 
 // Sweeps the calls that make a list grow or shrink, for items of one more size or alignment. The
-// other calls request their blocks by the same functions.
+// other calls request the blocks of lists by the same functions.
 fn sweep_sizes<T: Numbered, R: Abort>(rt: &R, alloc: Global, long: &[usize]) {
     let ledger = Ledger::leaked(alloc).expect(rt, "memory");
     sweep::<Adding, T, Doubling, R>(rt, ledger, &SHORT, &[0, 1, 4], ALL);
@@ -123,7 +124,8 @@ fn sweeps_counted_items_of_24_bytes(rt: HostRuntime) {
 
 #[test]
 fn sweeps_items_of_512_bytes(rt: HostRuntime) {
-    sweep_sizes::<Large, _>(&rt, rt.alloc(), &[50]);
+    let ledger = Ledger::leaked(rt.alloc()).expect(&rt, "memory");
+    sweeps::<Large, _>(&rt, ledger, &[0, 1, 3, 33], &[0, 4], 40);
 }
 
 #[test]

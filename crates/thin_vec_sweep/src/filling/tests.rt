@@ -2,7 +2,7 @@
 use crate::filling::fill::{Collect, Extend, ExtendOfTrait, FromIter, fill_lists};
 use crate::filling::limits::limits;
 use crate::filling::splices::splices;
-use crate::tests::{SHORT, Small, ThreeWords};
+use crate::tests::{Large, SHORT, Small, ThreeWords};
 use std::alloc::Global;
 use std::process::Abort;
 use thin_testing::{CountedWord, Ledger, Numbered, Ruled, Threefold};
@@ -35,6 +35,7 @@ fn fills_lists_of_numbers_and_of_320_bytes(rt: HostRuntime) {
 fn fills_lists_of_counted_items(rt: HostRuntime) {
     fill_all::<Small, Doubling, _>(&rt, rt.alloc());
     fill_all::<ThreeWords, Threefold, _>(&rt, rt.alloc());
+    fill_all::<Large, Doubling, _>(&rt, rt.alloc());
 }
 
 #[test]
@@ -63,6 +64,7 @@ fn splices_counted_items(rt: HostRuntime) {
     let ledger = Ledger::leaked(rt.alloc()).expect(&rt, "memory");
     splices::<Small, Doubling, _>(&rt, ledger, &SHORT, &[0, 3]);
     splices::<CountedWord<'static>, Threefold, _>(&rt, ledger, &[2, 4], &[0]);
+    splices::<Large, Doubling, _>(&rt, ledger, &[3], &[0, 1]);
 }
 
 #[test]

@@ -1,8 +1,8 @@
 -- Each row that the loop in `sum` has computed is the sum of the corresponding rows of the two
 -- matrices. All other rows of the result contain only zeros.
 use Rattle.std.proofs.Common.{◌≡◌, ℕ, ◌<◌, ◌≤◌, length}
-use Rattle.sparse_matrix.specs.Numbers.{added, number_at}
-use Rattle.sparse_matrix.proofs.matrix.Matrix.sum.Given as goal
+use Rattle.thin_examples.specs.Numbers.{added, number_at}
+use Rattle.thin_examples.proofs.matrix.Matrix.sum.Given as goal
 
 abbrev pub invariant-loop-row : goal.invariant-loop-row
 invariant-loop-row g l = record {

@@ -1,10 +1,10 @@
 -- After its loop, `set_column` has written all numbers of a row of `other` into a column of `self`.
 use Rattle.std.proofs.Common.{◌≡◌, ap, arith, length, sym, ◌∙◌}
 use Rattle.thin_rows.specs.Table.{row_at}
-use Rattle.sparse_matrix.specs.Numbers.{number_at}
-use Rattle.sparse_matrix.proofs.NumberLemmas.{at_row, here, other_columns, other_rows}
-use Rattle.sparse_matrix.proofs.WritesLemmas.{all_written, columns_below, next_written}
-use Rattle.sparse_matrix.proofs.matrix.Matrix.set_column.Goals as goal
+use Rattle.thin_examples.specs.Numbers.{number_at}
+use Rattle.thin_examples.proofs.NumberLemmas.{at_row, here, other_columns, other_rows}
+use Rattle.thin_examples.proofs.WritesLemmas.{all_written, columns_below, next_written}
+use Rattle.thin_examples.proofs.matrix.Matrix.set_column.Goals as goal
 
 pub set-requires-clause-row_in_bounds : goal.set-requires-clause-row_in_bounds
 set-requires-clause-row_in_bounds g c =

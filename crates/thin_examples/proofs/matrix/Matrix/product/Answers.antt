@@ -3,10 +3,10 @@
 use Rattle.std.proofs.Common.{◌≡◌, ℕ, ◌<◌, ◌-◌, ◌^◌, ap, arith, length, min, slice_index, slice_index_or, ◌∙◌}
 use Rattle.std.proofs.lemmas.Grind.{common_steps, elements}
 use Rattle.thin_rows.specs.Table.{row_at}
-use Rattle.sparse_matrix.specs.Numbers.{dot}
-use Rattle.sparse_matrix.proofs.WritesLemmas.{columns_below}
-use Rattle.sparse_matrix.proofs.SumLemmas.{row_sum}
-use Rattle.sparse_matrix.proofs.matrix.Matrix.product.Goals as goal
+use Rattle.thin_examples.specs.Numbers.{dot}
+use Rattle.thin_examples.proofs.WritesLemmas.{columns_below}
+use Rattle.thin_examples.proofs.SumLemmas.{row_sum}
+use Rattle.thin_examples.proofs.matrix.Matrix.product.Goals as goal
 
 pub row_product-requires : goal.row_product-requires
 row_product-requires g c =

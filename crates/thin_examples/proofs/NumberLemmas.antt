@@ -4,7 +4,7 @@ use Rattle.std.specs.Option.{unwrap_or}
 use Rattle.std.proofs.lemmas.Bool.{and_from, and_left, and_right, cases_eq, eq-eqb, ne_eqb}
 use Rattle.thin_rows.specs.Table.{Table, with_value, without_value}
 use Rattle.thin_rows.proofs.TableLemmas.{columns_left, columns_unchanged, outside, removed, rows_left, rows_unchanged, written}
-use Rattle.sparse_matrix.specs.Numbers.{number_at}
+use Rattle.thin_examples.specs.Numbers.{number_at}
 
 if_true : {b : Bool} (x y : ℕ) → b ≡ true → (if b then x else y) ≡ x
 if_true x y e = ap (λ (b : Bool). if b then x else y) e

@@ -3,9 +3,9 @@
 -- changed.
 use Rattle.std.proofs.Common.{◌≡◌, ◌≢◌, ℕ, length}
 use Rattle.thin_rows.specs.Table.{row_at}
-use Rattle.sparse_matrix.specs.Numbers.{number_at}
-use Rattle.sparse_matrix.proofs.WritesLemmas.{IsWritten}
-use Rattle.sparse_matrix.proofs.matrix.Matrix.set_column.Given as goal
+use Rattle.thin_examples.specs.Numbers.{number_at}
+use Rattle.thin_examples.proofs.WritesLemmas.{IsWritten}
+use Rattle.thin_examples.proofs.matrix.Matrix.set_column.Given as goal
 
 abbrev pub invariant-loop-row : goal.invariant-loop-row
 invariant-loop-row g l = record {

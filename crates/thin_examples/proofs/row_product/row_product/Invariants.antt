@@ -1,7 +1,7 @@
 -- In the loop of `row_product`, `total` is the sum of `number * vector[column]` over the visited
 -- entries `(column, number)`, capped at `u64::MAX`.
 use Rattle.std.proofs.Common.{◌≡◌, ◌*◌, ◌-◌, ◌^◌, map, min, slice_index, sum, take}
-use Rattle.sparse_matrix.proofs.row_product.row_product.Given as goal
+use Rattle.thin_examples.proofs.row_product.row_product.Given as goal
 
 abbrev pub invariant-loop-column : goal.invariant-loop-column
 invariant-loop-column l =

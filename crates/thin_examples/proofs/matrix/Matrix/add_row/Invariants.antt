@@ -2,9 +2,9 @@
 -- loop has visited so far have been added, and nothing else in the matrix has changed.
 use Rattle.std.proofs.Common.{◌≡◌, ◌≢◌, ℕ, length}
 use Rattle.thin_rows.specs.Table.{row_at}
-use Rattle.sparse_matrix.specs.Numbers.{added, number_at}
-use Rattle.sparse_matrix.proofs.WritesLemmas.{IsWritten}
-use Rattle.sparse_matrix.proofs.matrix.Matrix.add_row.Given as goal
+use Rattle.thin_examples.specs.Numbers.{added, number_at}
+use Rattle.thin_examples.proofs.WritesLemmas.{IsWritten}
+use Rattle.thin_examples.proofs.matrix.Matrix.add_row.Given as goal
 
 abbrev pub invariant-loop-column : goal.invariant-loop-column
 invariant-loop-column g l = record {

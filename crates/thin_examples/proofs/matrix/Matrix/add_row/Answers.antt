@@ -2,10 +2,10 @@
 use Rattle.std.proofs.Common.{◌≡◌, ap, arith, length, ◌∙◌}
 use Rattle.std.specs.Prelude.{slice_index_or}
 use Rattle.thin_rows.specs.Table.{row_at}
-use Rattle.sparse_matrix.specs.Numbers.{added, number_at}
-use Rattle.sparse_matrix.proofs.NumberLemmas.{at_row, here, other_columns, other_rows}
-use Rattle.sparse_matrix.proofs.WritesLemmas.{all_written, columns_below, next_written}
-use Rattle.sparse_matrix.proofs.matrix.Matrix.add_row.Goals as goal
+use Rattle.thin_examples.specs.Numbers.{added, number_at}
+use Rattle.thin_examples.proofs.NumberLemmas.{at_row, here, other_columns, other_rows}
+use Rattle.thin_examples.proofs.WritesLemmas.{all_written, columns_below, next_written}
+use Rattle.thin_examples.proofs.matrix.Matrix.add_row.Goals as goal
 
 pub set-requires-clause-column_in_bounds : goal.set-requires-clause-column_in_bounds
 set-requires-clause-column_in_bounds g c =

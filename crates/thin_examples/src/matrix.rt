@@ -1,7 +1,7 @@
 //! A matrix whose zeros take no memory.
 ghost use Rattle.std.specs.Prelude.{◌≡◌, ◌+◌, ◌-◌, ◌^◌, ◌<◌, ◌≤◌, ◌==◌, ◌&&◌, if◌then◌else◌, ℕ, None, IfOk, OnErr, OnOk, length, min, slice_index};
 ghost use Rattle.thin_rows.specs.Table.{value_at};
-ghost use Rattle.sparse_matrix.specs.Numbers.{added, dot, number_at};
+ghost use Rattle.thin_examples.specs.Numbers.{added, dot, number_at};
 
 use crate::row_product::row_product;
 use std::alloc::{Allocator, Global};

@@ -1,8 +1,8 @@
 -- For each visited row, the loop in `product` has pushed the product of this row and the vector,
 -- capped at `u64::MAX`.
 use Rattle.std.proofs.Common.{◌≡◌, ℕ, ◌<◌, ◌-◌, ◌^◌, length, min, slice_index}
-use Rattle.sparse_matrix.specs.Numbers.{dot}
-use Rattle.sparse_matrix.proofs.matrix.Matrix.product.Given as goal
+use Rattle.thin_examples.specs.Numbers.{dot}
+use Rattle.thin_examples.proofs.matrix.Matrix.product.Given as goal
 
 abbrev pub invariant-loop-row : goal.invariant-loop-row
 invariant-loop-row g l = record {

@@ -1,8 +1,8 @@
 -- If `set` succeeds, then the matrix contains `number` at `row` and `column`, and all its other
 -- numbers are unchanged.
 use Rattle.std.proofs.Common.{arith}
-use Rattle.sparse_matrix.proofs.NumberLemmas.{number-with_value, number-without_value, small_if_written, still_small}
-use Rattle.sparse_matrix.proofs.matrix.Matrix.set.Goals as goal
+use Rattle.thin_examples.proofs.NumberLemmas.{number-with_value, number-without_value, small_if_written, still_small}
+use Rattle.thin_examples.proofs.matrix.Matrix.set.Goals as goal
 
 pub invariant_of-self-clause-small : goal.invariant_of-self-clause-small
 invariant_of-self-clause-small g c =

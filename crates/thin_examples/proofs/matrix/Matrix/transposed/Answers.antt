@@ -2,8 +2,8 @@
 -- only zeros if this row does not exist.
 use Rattle.std.proofs.Common.{◌≡◌, arith, inl, inr, length, sym, ◌∙◌}
 use Rattle.std.proofs.lemmas.Bool.{cases_lt}
-use Rattle.sparse_matrix.proofs.NumberLemmas.{no_row}
-use Rattle.sparse_matrix.proofs.matrix.Matrix.transposed.Goals as goal
+use Rattle.thin_examples.proofs.NumberLemmas.{no_row}
+use Rattle.thin_examples.proofs.matrix.Matrix.transposed.Goals as goal
 
 pub returns-clause-numbers : goal.returns-clause-numbers
 returns-clause-numbers g c =

@@ -1,8 +1,8 @@
 -- Each column that the loop in `transposed` has written equals the row of `self` with the same
 -- index. All other columns of the result contain only zeros.
 use Rattle.std.proofs.Common.{◌≡◌, ℕ, ◌<◌, ◌≤◌, length}
-use Rattle.sparse_matrix.specs.Numbers.{number_at}
-use Rattle.sparse_matrix.proofs.matrix.Matrix.transposed.Given as goal
+use Rattle.thin_examples.specs.Numbers.{number_at}
+use Rattle.thin_examples.proofs.matrix.Matrix.transposed.Given as goal
 
 abbrev pub invariant-loop-row : goal.invariant-loop-row
 invariant-loop-row g l = record {

@@ -12,7 +12,7 @@ use Rattle.std.proofs.lemmas.Bool.{cases_eq}
 use Rattle.std.proofs.lemmas.Bool.Decides.{nat_tests}
 use Rattle.std.proofs.lemmas.List.Sums.{sum-map, sum_by-cons}
 use Rattle.thin_rows.specs.Table.{Columns}
-use Rattle.sparse_matrix.specs.Numbers.{sum_below}
+use Rattle.thin_examples.specs.Numbers.{sum_below}
 
 both_hold : (a b : Bool) → T (a && b) → T a × T b
 both_hold true b h = (tt, h)
