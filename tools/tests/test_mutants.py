@@ -14,7 +14,7 @@ RIGHT = """
 what = "Planted."
 old = "mod runner;"
 new = "mod run;"
-seen = "client_tests drops_each_value_once"
+seen = "list_tests drops_each_value_once"
 """
 
 
@@ -43,7 +43,7 @@ class Mutants(ToolTest):
             ("[planted]", 2, f"{place}: planted has no text `what`"),
             (f"[drop_leaks]{RIGHT}", 2, f"drop_leaks is also in {place}"),
             (f"[planted]{RIGHT.replace('mod runner', 'no')}", 1, "has the old text 0 times"),
-            (f"[planted]{RIGHT.replace('_once', '')}", 1, "is no client_tests drops_each_value"),
+            (f"[planted]{RIGHT.replace('_once', '')}", 1, "is no list_tests drops_each_value"),
             (f"[planted]{RIGHT.replace('mod run;', 'Absent::NAME')}", 1, "lib.rt has no Absent"),
         ):
             path.write_text(text, encoding="utf-8")
@@ -81,11 +81,11 @@ class Mutants(ToolTest):
             ("blind", False, False, "NOT SEEN {}: no test fails\n", 1),
             ("always", False, False, "NOT SEEN {}: no test fails\n", 1),
             ("always", True, False, "NOT SEEN {}: no test fails\n", 1),
-            ("sees", False, False, "seen {}: client_tests sees\n", 0),
-            ("blind", False, True, "NOT SEEN {}: client_tests sees\n", 1),
+            ("sees", False, False, "seen {}: list_tests sees\n", 0),
+            ("blind", False, True, "NOT SEEN {}: list_tests sees\n", 1),
         ):
             body = mutants.wrong_bodies()[0]
-            body.seen, body.alone = ("client_tests", named), alone
+            body.seen, body.alone = ("list_tests", named), alone
             options = types.SimpleNamespace(jobs=1, all=all_tests)
 
             def tests(copy, crate):
@@ -98,7 +98,7 @@ class Mutants(ToolTest):
                     passes=lambda test: 0 not in fails[test],
                 )
 
-            found = {"Tests": tests, "has_test": lambda crate, _: crate == "client_tests"}
+            found = {"Tests": tests, "has_test": lambda crate, _: crate == "list_tests"}
             with self.subTest(said), mock.patch.multiple(mutants, **found):
                 with contextlib.redirect_stdout(io.StringIO()) as told:
                     trial = mutants.Trial([body], options, self.folder())

@@ -1,14 +1,16 @@
 //! Defines `Refusing`, an allocator for tests that wraps another allocator, `inner`. It refuses one
 //! request, which the test chooses, or all, and passes the other requests on to `inner`. A request
-//! is a call to `allocate`. The methods `grow` and `shrink` are those of the trait: each makes one
-//! request, for a new block, and then frees the old one. So no block grows in place.
+//! is a call to `allocate` or to `request`, or a clone of the allocator. The methods `grow` and
+//! `shrink` are those of the trait: each makes one request, for a new block, and then frees the old
+//! one. So no block grows in place.
 //!
 //! Pass the allocator by reference, as `&Refusing<Global>`. Such a reference is itself an
 //! allocator, and it is `Copy`.
 //!
 //! The method `blocks` returns the number of allocated blocks, and `bytes` the sum of their sizes.
 //! So a test can detect a leak, and a block that is freed with a wrong size. The method `lent`
-//! returns for how many bytes the requests were, so that a test can detect one that is too large.
+//! returns for how many bytes the granted requests were, so that a test can detect one that is too
+//! large.
 //!
 //! It is proved that every block comes from `inner`, and that a freed block is returned to `inner`.
 //! The counters are only tested, because contracts cannot mention the contents of a `Cell`.

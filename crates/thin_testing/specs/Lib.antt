@@ -1,3 +1,3 @@
--- The module `Multiples` defines the two growth rules that only tests use, and proves that both
--- keep the law of growth rules (`IsLawful`).
+-- The module `Multiples` defines the growth rule that only tests use, and proves that it keeps the
+-- law of growth rules (`IsLawful`).
 pub mod Multiples

@@ -7,7 +7,8 @@ use std::alloc::{AllocError, Allocator, Global};
 use std::mem;
 use thin_vec::{Growth, ThinVec, ThinVecError};
 
-/// The allocator of the lists under test. It counts the requests, and can refuse one of them.
+/// The allocator of the lists under test. It counts the requests, and can refuse one of them, or
+/// all.
 pub type Lender = &'static Refusing<Global>;
 
 /// A list under test.

@@ -15,7 +15,7 @@ use std::fmt;
 /// The allocator of a test, and what the test counts. `live` counts the items that exist now. The
 /// other counts begin again with each call to `begin`.
 pub struct Ledger {
-    /// Refuses one request, which `begin` chooses.
+    /// Refuses one request, which `begin` chooses, or all.
     pub alloc: Refusing<Global>,
     /// Refuses nothing and counts nothing.
     pub global: Global,
@@ -53,8 +53,8 @@ impl Ledger {
         Ok(Box::leak(Box::new(alloc, Ledger::new(alloc))?))
     }
 
-    /// Sets all counts but `live` to 0. From now on, the allocator refuses request number
-    /// `refused`, and no request if `refused` is 0.
+    /// Sets all counts of the ledger but `live` to 0. From now on, the allocator refuses request
+    /// number `refused`, no request if `refused` is 0, and all if it is `ALL_REQUESTS`.
     pub fn begin(&self, refused: u64) {
         self.alloc.refuse(refused);
         for cell in [

@@ -3,26 +3,22 @@
 //! `Numbered` are made from numbers, and those of the type `Counted` are counted. `Claims` is an
 //! iterator whose size hint may be wrong. `Threefold` is a growth rule that only tests use. The
 //! trait `Ruled` computes the capacities that tests expect. A `Case` is a call of a sweep on a
-//! list. Checks such as `same` and `holds` return what is wrong.
+//! list.
 #![tactic(auto)]
 
 mod case;
-mod checks;
 mod claims;
 mod ledger;
-mod lists;
 mod multiples;
 mod numbered;
 mod ruled;
-mod texts;
+mod splices;
 
 pub use case::{Answer, At, Case, Due, Lender, List, Wrong, filled_list, numbered_items};
-pub use checks::{Different, counts, has_len, holds, same, same_items};
 pub use claims::Claims;
 pub use ledger::{Counted, CountedWord, Ledger};
-pub use lists::{counted_list, list_of, splice};
 pub use multiples::Threefold;
 pub use numbered::{Numbered, block_bytes, greatest_capacity};
 pub use refusing::{ALL_REQUESTS, Refusing};
 pub use ruled::{Ruled, least_power};
-pub use texts::{Misprinted, prints, prints_as};
+pub use splices::splice;

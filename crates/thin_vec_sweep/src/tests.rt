@@ -1,5 +1,5 @@
-//! The sweeps: all calls for some item types, and for the others the calls that make a list grow or
-//! shrink. Each test finishes within seconds.
+//! The sweeps. Some item types have the calls of most groups, and others those of a few groups.
+//! Each test finishes within seconds.
 ghost use Rattle.std.specs.Mem.{type_size};
 ghost use Rattle.std.specs.Prelude.{◌*◌, ◌<◌, ◌^◌};
 
@@ -54,8 +54,8 @@ fn sweeps<T: Numbered, R: Abort>(
     sweep::<Making, T, Doubling, R>(rt, ledger, lengths, spares, most);
 }
 
-// Sweeps all calls of short lists of `T`, of lists of the given lengths, and of lists with much
-// spare capacity.
+// Sweeps the calls that exist for all item types, of short lists of `T`, of lists of the given
+// lengths, and of lists with much spare capacity.
 fn sweep_all<T: Numbered, R: Abort>(rt: &R, alloc: Global, long: &[usize]) {
     let ledger = Ledger::leaked(alloc).expect(rt, "memory");
     sweeps::<T, R>(rt, ledger, &SHORT, &[0, 1, 4], ALL);
@@ -63,8 +63,8 @@ fn sweep_all<T: Numbered, R: Abort>(rt: &R, alloc: Global, long: &[usize]) {
     sweeps::<T, R>(rt, ledger, &[1, 33, 100], &[300], 30);
 }
 
-// Sweeps the calls that make a list grow or shrink, for items of one more size or alignment. The
-// other calls request the blocks of lists by the same functions.
+// Sweeps the calls of the group `Adding`, for items of one more size or alignment. The other calls
+// request the blocks of lists by the same functions.
 fn sweep_sizes<T: Numbered, R: Abort>(rt: &R, alloc: Global, long: &[usize]) {
     let ledger = Ledger::leaked(alloc).expect(rt, "memory");
     sweep::<Adding, T, Doubling, R>(rt, ledger, &SHORT, &[0, 1, 4], ALL);

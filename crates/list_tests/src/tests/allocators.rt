@@ -3,13 +3,15 @@
 ghost use Rattle.std.specs.Mem.{type_size};
 ghost use Rattle.std.specs.Prelude.{◌*◌, ◌<◌, ◌^◌};
 
+use crate::check;
+use crate::checks::{leaked_ledger, leaked_refusing};
 use std::alloc::{Allocator, Global};
 use std::default::Emptied;
 use std::io;
 use std::process::Abort;
 use std::rc::Rc;
 use thin_runner::hinted::Hinted;
-use thin_testing::{Counted, Ledger, Lender, Numbered, Refusing, check, numbered_items, splice};
+use thin_testing::{Counted, Ledger, Lender, Numbered, Refusing, numbered_items, splice};
 use thin_vec::{ThinVec, ThinVecError, thin_vec};
 
 // Makes a `Vec` of the items of the list with the allocator `alloc`, by one of six calls. The
@@ -38,8 +40,8 @@ fn made_by_way<A: Allocator + Copy>(
 // Tries each of the six calls on a list of `items`. Pushes one more item to the `Vec` that it
 // makes, so that the `Vec` has a block.
 fn assert_each_way_uses_the_allocator(rt: &impl Abort, alloc: Global, items: &[i32]) {
-    let own = check!(rt; Refusing::leaked(alloc, 0));
-    let other = check!(rt; Refusing::leaked(alloc, 0));
+    let own = leaked_refusing(rt, alloc, 0);
+    let other = leaked_refusing(rt, alloc, 0);
     for way in 0..6 {
         let list = check!(rt; list_of(own, items));
         let mut made = check!(rt; made_by_way(way, list, other));
@@ -58,8 +60,8 @@ fn calls_allocate_results_on_the_allocator_passed(rt: HostRuntime) {
 
 #[test]
 fn finish_holds_items_back_on_the_allocator_passed(rt: HostRuntime) {
-    let own = check!(rt; Refusing::leaked(rt.alloc(), 0));
-    let other = check!(rt; Refusing::leaked(rt.alloc(), 0));
+    let own = leaked_refusing(&rt, rt.alloc(), 0);
+    let other = leaked_refusing(&rt, rt.alloc(), 0);
     let mut list = check!(rt; list_of(own, &[1, 2, 3]));
     check!(rt; has_len(&list, 3));
     let items = Hinted::new(check!(rt; [7, 8, 9].to_vec(rt.alloc())), 0);
@@ -181,7 +183,7 @@ fn assert_all_dropped(
 
 #[test]
 fn a_list_drops_the_allocator_that_it_owns(rt: HostRuntime) {
-    let ledger = check!(rt; Ledger::leaked(rt.alloc()));
+    let ledger = leaked_ledger(&rt, rt.alloc());
     let owner = check!(rt; Rc::new(rt.alloc(), 0));
     for count in [0, 1, 3, 40] {
         let mut function: usize = 0;
@@ -196,7 +198,7 @@ fn a_list_drops_the_allocator_that_it_owns(rt: HostRuntime) {
 
 #[test]
 fn copies_drop_the_allocators_that_they_own(rt: HostRuntime) {
-    let ledger = check!(rt; Ledger::leaked(rt.alloc()));
+    let ledger = leaked_ledger(&rt, rt.alloc());
     let owner = check!(rt; Rc::new(rt.alloc(), 0));
     for refused in 0..3 {
         ledger.begin(refused);
@@ -213,7 +215,7 @@ fn copies_drop_the_allocators_that_they_own(rt: HostRuntime) {
 
 #[test]
 fn an_emptied_list_clones_the_allocator_once(rt: HostRuntime) {
-    let alloc = check!(rt; Refusing::leaked(rt.alloc(), 0));
+    let alloc = leaked_refusing(&rt, rt.alloc(), 0);
     for len in [0, 1, 40] {
         let mut list: ThinVec<i32, Owned> = ThinVec::new(Refusing::new(alloc, 0));
         check!(rt; list.resize(len, 7));

@@ -1,8 +1,8 @@
-//! Tests of the checks of `thin_testing`: each finds what is wrong, and `check!` stops the test.
+//! Tests of the modules `checks` and `texts` of this crate: each check finds what is wrong.
+use crate::check;
+use crate::checks::{counts, has_len, holds, leaked_refusing, same, same_items};
+use crate::texts::{Misprinted, prints, prints_as};
 use std::fmt::{self, Debug};
-use thin_testing::{
-    Misprinted, Refusing, check, counts, has_len, holds, prints, prints_as, same, same_items,
-};
 
 #[test]
 fn detects_a_wrong_value(rt: HostRuntime) {
@@ -35,7 +35,7 @@ fn detects_a_wrong_capacity(rt: HostRuntime) {
 
 #[test]
 fn detects_a_wrong_number_of_blocks(rt: HostRuntime) {
-    let refusing = check!(rt; Refusing::leaked(rt.alloc(), 0));
+    let refusing = leaked_refusing(&rt, rt.alloc(), 0);
     let _list = check!(rt; list_of(refusing, &[1]));
     check!(rt; counts(refusing, 1, 1));
     check!(rt; same(counts(refusing, 1, 0).is_err(), true));

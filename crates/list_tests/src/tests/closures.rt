@@ -1,8 +1,9 @@
 //! Tests of how often and in which order calls ask their closures, and of what a closure leaves in
 //! a variable that it borrows.
+use crate::check;
 use std::alloc::Global;
 use std::cell::Cell;
-use thin_testing::{Refusing, check};
+use thin_testing::Refusing;
 use thin_vec::ThinVec;
 
 // Appends the two digits of the item to the decimal number in `asked`, and returns the first digit.

@@ -7,11 +7,11 @@ ghost use Rattle.std.specs.Hash as fed;
 ghost use Rattle.std.specs.Ordering.{as_partial_cmp, nat_cmp};
 ghost use Rattle.std.specs.Prelude.{◌%◌, ◌==◌};
 
+use crate::check;
 use std::alloc::Global;
 use std::cmp::Ordering;
 use std::hash::{DefaultHasher, Hash, Hasher};
 use std::process::Abort;
-use thin_testing::check;
 use thin_vec::{ThinVec, ThinVecError};
 
 // A number of which only the last decimal digit is compared and hashed.

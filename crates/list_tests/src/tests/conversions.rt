@@ -1,7 +1,8 @@
 //! Tests of conversions from and to arrays, vectors and boxed slices, granted and refused.
+use crate::check;
+use crate::checks::leaked_refusing;
 use std::alloc::Global;
 use std::process::Abort;
-use thin_testing::{Refusing, check};
 use thin_vec::{ThinVec, ThinVecError};
 
 const OUT_OF_MEMORY: ThinVecError = ThinVecError::OutOfMemory;
@@ -45,7 +46,7 @@ fn converted_lists_have_no_spare_capacity(rt: HostRuntime) {
 
 #[test]
 fn refused_conversions_into_a_list_return_their_source(rt: HostRuntime) {
-    let refusing = check!(rt; Refusing::leaked(rt.alloc(), 1));
+    let refusing = leaked_refusing(&rt, rt.alloc(), 1);
     let items = [1, 2, 3];
     let refused = check!(rt; ThinVec::from_array(refusing, items).err());
     let value = refused.value;
@@ -65,8 +66,8 @@ fn refused_conversions_into_a_list_return_their_source(rt: HostRuntime) {
 
 #[test]
 fn refused_conversions_of_a_list_return_the_list(rt: HostRuntime) {
-    let own = check!(rt; Refusing::leaked(rt.alloc(), 0));
-    let other = check!(rt; Refusing::leaked(rt.alloc(), 1));
+    let own = leaked_refusing(&rt, rt.alloc(), 0);
+    let other = leaked_refusing(&rt, rt.alloc(), 1);
     let list = check!(rt; list_of(own, &[1, 2, 3, 4, 5]));
     let refused = check!(rt; list.into_vec(other).err());
     check!(rt; same(refused.cause, OUT_OF_MEMORY));

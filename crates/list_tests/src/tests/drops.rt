@@ -1,7 +1,9 @@
 //! A test of when the filters of a list drop an item that they remove.
+use crate::check;
+use crate::checks::leaked_ledger;
 use std::cell::Cell;
 use std::process::Abort;
-use thin_testing::{Counted, Ledger, List, check, filled_list};
+use thin_testing::{Counted, Ledger, List, filled_list};
 use thin_vec::Doubling;
 
 // Counts a call to a closure that keeps none of the items that it tests, of a list of `len`, and
@@ -33,7 +35,7 @@ fn late_drops(
 
 #[test]
 fn filters_drop_an_item_before_they_test_the_next_one(rt: HostRuntime) {
-    let ledger = check!(rt; Ledger::leaked(rt.alloc()));
+    let ledger = leaked_ledger(&rt, rt.alloc());
     for len in [1, 2, 6, 100] {
         for is_dedup in [false, true] {
             let mut list: List<Counted<'static>, Doubling> =

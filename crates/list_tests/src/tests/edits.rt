@@ -1,9 +1,10 @@
 //! Tests of what no contract states of a list that another call edits: one whose `Drain` or
 //! `ExtractIf` is passed to a call or forgotten, and one over which a loop iterates.
+use crate::check;
+use crate::checks::leaked_refusing;
 use std::alloc::Global;
 use std::mem;
 use std::process::Abort;
-use thin_testing::{Refusing, check};
 use thin_vec::ThinVec;
 
 fn assert_collect_removes(rt: &impl Abort, alloc: Global, list: &mut ThinVec<i32>) {
@@ -78,7 +79,7 @@ fn extend_and_from_iter_remove_the_extracted_items(rt: HostRuntime) {
 fn a_refused_extend_removes_the_drained_items(rt: HostRuntime) {
     let mut list = check!(rt; list_of(rt.alloc(), &[1, 2, 3, 4]));
     check!(rt; has_len(&list, 4));
-    let mut other = ThinVec::new(check!(rt; Refusing::leaked(rt.alloc(), 1)));
+    let mut other = ThinVec::new(leaked_refusing(&rt, rt.alloc(), 1));
     let refused = other.extend(list.drain(1, 3)).is_err();
     check!(rt; same((refused, other.len()), (true, 0)));
     check!(rt; same_items(&list, &[1, 4]));
@@ -88,7 +89,7 @@ fn a_refused_extend_removes_the_drained_items(rt: HostRuntime) {
 fn a_refused_extend_leaves_what_was_not_extracted(rt: HostRuntime) {
     let mut list = check!(rt; list_of(rt.alloc(), &[1, 2, 3, 4]));
     check!(rt; has_len(&list, 4));
-    let mut other = ThinVec::new(check!(rt; Refusing::leaked(rt.alloc(), 1)));
+    let mut other = ThinVec::new(leaked_refusing(&rt, rt.alloc(), 1));
     let in_hand = match other.extend(list.extract_if(0, 4, |x: &mut i32| *x % 2 == 0)) {
         Ok(()) => None,
         Err(refused) => refused.in_hand,

@@ -1,10 +1,14 @@
 //! Tests of the errors of `thin_vec`: their texts, and that `?` drops what they hold.
+use crate::check;
+use crate::checks::leaked_ledger;
+use crate::lists::counted_list;
+use crate::texts::prints_as;
 use std::alloc::{AllocError, Global};
 use std::error::Error;
 use std::fmt::{self, Debug};
 use std::io;
 use std::process::Abort;
-use thin_testing::{Counted, Ledger, check, counted_list, prints_as};
+use thin_testing::{Counted, Ledger};
 use thin_vec::{CollectRefused, ExtendRefused, Rejected, SpliceRefused, ThinVecError};
 
 #[test]
@@ -141,7 +145,7 @@ const CAUSES: [(ThinVecError, &'static str); 2] = [
 
 #[test]
 fn converting_to_thin_vec_error_drops_the_refusal(rt: HostRuntime) {
-    let ledger = check!(rt; Ledger::leaked(rt.alloc()));
+    let ledger = leaked_ledger(&rt, rt.alloc());
     for (cause, text) in CAUSES {
         assert_errors::<ThinVecError>(&rt, ledger, cause, false, text);
         assert_errors::<ThinVecError>(&rt, ledger, cause, true, text);
@@ -150,7 +154,7 @@ fn converting_to_thin_vec_error_drops_the_refusal(rt: HostRuntime) {
 
 #[test]
 fn converting_to_alloc_error_drops_the_refusal(rt: HostRuntime) {
-    let ledger = check!(rt; Ledger::leaked(rt.alloc()));
+    let ledger = leaked_ledger(&rt, rt.alloc());
     for (cause, _text) in CAUSES {
         assert_errors::<AllocError>(&rt, ledger, cause, false, "AllocError");
         assert_errors::<AllocError>(&rt, ledger, cause, true, "AllocError");
@@ -159,7 +163,7 @@ fn converting_to_alloc_error_drops_the_refusal(rt: HostRuntime) {
 
 #[test]
 fn converting_to_io_error_drops_the_refusal(rt: HostRuntime) {
-    let ledger = check!(rt; Ledger::leaked(rt.alloc()));
+    let ledger = leaked_ledger(&rt, rt.alloc());
     for (cause, _text) in CAUSES {
         assert_errors::<io::Error>(&rt, ledger, cause, false, "Kind(OutOfMemory)");
         assert_errors::<io::Error>(&rt, ledger, cause, true, "Kind(OutOfMemory)");

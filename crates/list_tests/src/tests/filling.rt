@@ -2,8 +2,8 @@
 ghost use Rattle.std.specs.Iterator.{at_most};
 ghost use Rattle.std.specs.Prelude.{◌+◌, length};
 
+use crate::check;
 use std::cell::Cell;
-use thin_testing::check;
 use thin_vec::ThinVec;
 
 #[test]

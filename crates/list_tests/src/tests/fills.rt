@@ -1,9 +1,11 @@
 //! A test of how often `fill` clones, and that it drops the old items.
 ghost use Rattle.std.specs.Prelude.{⊤};
 
+use crate::check;
+use crate::checks::leaked_ledger;
 use std::alloc::{AllocError, Global};
 use std::process::Abort;
-use thin_testing::{Counted, Ledger, Refusing, check};
+use thin_testing::{Counted, Ledger, Refusing};
 use thin_vec::{ThinVec, ThinVecError};
 
 // The number of the value with which a list is filled.
@@ -62,7 +64,7 @@ fn assert_filled(rt: &impl Abort, ledger: &'static Ledger, len: u64) {
 
 #[test]
 fn fill_clones_for_each_item_but_the_last(rt: HostRuntime) {
-    let ledger = check!(rt; Ledger::leaked(rt.alloc()));
+    let ledger = leaked_ledger(&rt, rt.alloc());
     for len in [0, 1, 2, 40, 3000] {
         ledger.begin(0);
         assert_filled(&rt, ledger, len);

@@ -3,10 +3,10 @@
 ghost use Rattle.std.specs.Prelude.{◌≡◌, IsTrue, IsFalse, ◌^◌, ◌-◌, ◌+◌};
 ghost use Rattle.thin_block.specs.Capacity.{items_offset, fits as fits_at};
 
+use crate::check;
 use std::alloc::Global;
 use std::process::Abort;
 use thin_block::{Growth, PowerBytes, first_capacity, fits, next_capacity};
-use thin_testing::check;
 use thin_vec::ThinVec;
 
 #[test]

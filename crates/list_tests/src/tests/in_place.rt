@@ -3,9 +3,11 @@
 //! block of 32 slots or more, which is padded, if its items are larger and aligned to 8. The tests
 //! compare items and capacities, which are the same whether or not a block moves, and the number of
 //! allocated bytes, so they see which blocks are padded.
+use crate::check;
+use crate::checks::leaked_ledger;
 use std::alloc::Allocator;
 use std::process::Abort;
-use thin_testing::{Counted, Ledger, Lender, Numbered, block_bytes, check, least_power};
+use thin_testing::{Counted, Ledger, Lender, Numbered, block_bytes, least_power};
 use thin_vec::{PowerBytes, ThinVec, ThinVecError};
 
 // Pushes items that are made from their indices until the list has `len` items.
@@ -101,7 +103,7 @@ fn assert_type<T: Numbered>(rt: &impl Abort, ledger: &'static Ledger) {
 
 #[test]
 fn a_list_of_each_width_grows_and_shrinks_in_place(rt: HostRuntime) {
-    let ledger = check!(rt; Ledger::leaked(rt.alloc()));
+    let ledger = leaked_ledger(&rt, rt.alloc());
     assert_type::<u8>(&rt, ledger);
     assert_type::<u16>(&rt, ledger);
     assert_type::<i32>(&rt, ledger);
@@ -115,7 +117,7 @@ fn a_list_of_each_width_grows_and_shrinks_in_place(rt: HostRuntime) {
 // Items of 20 bytes are large, too, but aligned to 4, so their blocks are not padded.
 #[test]
 fn a_block_of_large_items_is_padded_from_32_slots_on(rt: HostRuntime) {
-    let ledger = check!(rt; Ledger::leaked(rt.alloc()));
+    let ledger = leaked_ledger(&rt, rt.alloc());
     assert_type::<[u32; 5]>(&rt, ledger);
     assert_type::<[u64; 3]>(&rt, ledger);
     assert_type::<[u128; 3]>(&rt, ledger);
@@ -139,7 +141,7 @@ fn assert_fits_powers<T: Numbered>(rt: &impl Abort, ledger: &'static Ledger) {
 
 #[test]
 fn blocks_of_power_bytes_just_fit_into_powers_of_two(rt: HostRuntime) {
-    let ledger = check!(rt; Ledger::leaked(rt.alloc()));
+    let ledger = leaked_ledger(&rt, rt.alloc());
     assert_fits_powers::<[u64; 3]>(&rt, ledger);
     assert_fits_powers::<[u128; 3]>(&rt, ledger);
 }

@@ -1,8 +1,10 @@
 //! Tests of `thin_vec!`: in which order it evaluates its arguments, that it evaluates no item if
 //! the memory is refused, how many requests it makes, and what it drops.
+use crate::check;
+use crate::checks::{leaked_ledger, leaked_refusing};
 use std::cell::Cell;
 use std::process::Abort;
-use thin_testing::{Counted, Ledger, Refusing, check};
+use thin_testing::{Counted, Refusing};
 use thin_vec::{ThinVec, ThinVecError, thin_vec};
 
 // Returns `value`, and appends `digit` to the decimal number in `order`.
@@ -41,7 +43,7 @@ fn evaluates_each_argument_once_and_in_order(rt: HostRuntime) {
 #[test]
 fn lists_of_1_and_12_items_need_one_request(rt: HostRuntime) {
     let (one, seven) = (1, 7);
-    let refusing = check!(rt; Refusing::leaked(rt.alloc(), 2));
+    let refusing = leaked_refusing(&rt, rt.alloc(), 2);
     let list = check!(rt; thin_vec![refusing => seven]);
     check!(rt; holds(&list, &[7], 1));
     refusing.refuse(2);
@@ -51,7 +53,7 @@ fn lists_of_1_and_12_items_need_one_request(rt: HostRuntime) {
 
 #[test]
 fn lists_of_1_and_200_literals_need_one_request(rt: HostRuntime) {
-    let refusing = check!(rt; Refusing::leaked(rt.alloc(), 2));
+    let refusing = leaked_refusing(&rt, rt.alloc(), 2);
     let list = check!(rt; thin_vec![refusing => -7]);
     check!(rt; holds(&list, &[-7], 1));
     drop(list);
@@ -90,7 +92,7 @@ fn evaluates_no_item_if_refused(rt: HostRuntime) {
 
 #[test]
 fn drops_the_repeated_value_if_the_capacity_overflows(rt: HostRuntime) {
-    let ledger = check!(rt; Ledger::leaked(rt.alloc()));
+    let ledger = leaked_ledger(&rt, rt.alloc());
     for form in 0..2 {
         let value = Counted::new(ledger, 7, ());
         let refused = if form == 0 {

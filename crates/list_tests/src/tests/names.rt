@@ -1,6 +1,7 @@
 //! Tests that the public names of `thin_vec` exist, and that its types have the traits that
 //! programs rely on, `Send` and `Sync` among them. The compiler checks this, so no thread is
 //! started.
+use crate::check;
 use std::alloc::{AllocError, Allocator, Global};
 use std::convert::AsSlice;
 use std::default::{Emptied, MadeWith};
@@ -11,7 +12,6 @@ use std::io::Write;
 use std::iter::{ExactSizeIterator, Extend, FromIterator, FusedIterator, empty};
 use std::marker::{Send, Sync};
 use std::ops::{DerefSlice, DerefSliceMut, Index, IndexMut};
-use thin_testing::check;
 use thin_vec::{
     Doubling, ExtractIf, Growth, IntoIter, PowerBytes, Rejected, ThinVec, ThinVecError, fits,
     thin_vec,

@@ -3,10 +3,12 @@
 ghost use Rattle.std.specs.Mem.{type_size};
 ghost use Rattle.std.specs.Prelude.{◌*◌, ◌<◌, ◌^◌};
 
+use crate::check;
+use crate::checks::leaked_ledger;
 use std::alloc::Global;
 use std::io;
 use std::process::Abort;
-use thin_testing::{Ledger, Numbered, check};
+use thin_testing::{Ledger, Numbered};
 use thin_vec::ThinVec;
 
 // The size of each block in bytes, 8 GiB, of which little is written. A process can have 2^47
@@ -63,7 +65,7 @@ fn assert_freed<T: Numbered>(rt: &impl Abort, ledger: &'static Ledger, alloc: Gl
 
 #[test]
 fn blocks_of_the_program_are_freed(rt: HostRuntime) {
-    let ledger = check!(rt; Ledger::leaked(rt.alloc()));
+    let ledger = leaked_ledger(&rt, rt.alloc());
     assert_freed::<u8>(&rt, ledger, rt.alloc(), 1);
     assert_freed::<[u64; 3]>(&rt, ledger, rt.alloc(), 1);
 }

@@ -1,5 +1,6 @@
 //! Tests of the allocator `Refusing`: which requests it refuses, and what it counts.
-use thin_testing::{Refusing, check};
+use crate::check;
+use thin_testing::Refusing;
 
 #[test]
 fn counts_live_blocks(rt: HostRuntime) {

@@ -1,16 +1,19 @@
 //! Tests of what a call returns if a request for memory or a clone is refused, and of the list
 //! afterwards.
+use crate::check;
+use crate::checks::{leaked_ledger, leaked_refusing};
+use crate::lists::counted_list;
 use std::alloc::Global;
 use std::process::Abort;
 use thin_runner::hinted::Hinted;
-use thin_testing::{Counted, Ledger, Refusing, check, counted_list, splice};
+use thin_testing::{Counted, Ledger, splice};
 use thin_vec::{ExtendRefused, SpliceRefused, ThinVec, ThinVecError, thin_vec};
 
 const OUT_OF_MEMORY: ThinVecError = ThinVecError::OutOfMemory;
 
 #[test]
 fn refused_push_returns_its_value(rt: HostRuntime) {
-    let refusing = check!(rt; Refusing::leaked(rt.alloc(), 2));
+    let refusing = leaked_refusing(&rt, rt.alloc(), 2);
     let mut list = ThinVec::new(refusing);
     for item in 1..5 {
         check!(rt; list.push(item));
@@ -26,7 +29,7 @@ fn refused_push_returns_its_value(rt: HostRuntime) {
 
 #[test]
 fn refused_append_changes_neither_list(rt: HostRuntime) {
-    let refusing = check!(rt; Refusing::leaked(rt.alloc(), 3));
+    let refusing = leaked_refusing(&rt, rt.alloc(), 3);
     let mut list = check!(rt; thin_vec![refusing => 1, 2]);
     let mut other = check!(rt; thin_vec![refusing => 3]);
     check!(rt; same(list.append(&mut other), Err(OUT_OF_MEMORY)));
@@ -40,7 +43,7 @@ fn refused_append_changes_neither_list(rt: HostRuntime) {
 
 #[test]
 fn extend_from_slice_drops_its_clones_if_one_is_refused(rt: HostRuntime) {
-    let ledger = check!(rt; Ledger::leaked(rt.alloc()));
+    let ledger = leaked_ledger(&rt, rt.alloc());
     let three = check!(rt; counted_list(ledger, rt.alloc(), 3));
     let mut list = check!(rt; thin_vec![rt.alloc() => Counted::new(ledger, 7, ())]);
     ledger.begin(2);
@@ -64,7 +67,7 @@ fn assert_numbers(rt: &impl Abort, items: &[Counted<'_>], numbers: &[u64]) {
 
 #[test]
 fn resize_grows_before_its_second_clone_is_refused(rt: HostRuntime) {
-    let ledger = check!(rt; Ledger::leaked(rt.alloc()));
+    let ledger = leaked_ledger(&rt, rt.alloc());
     let mut list = check!(rt; ThinVec::with_capacity(rt.alloc(), 1));
     check!(rt; list.push(Counted::new(ledger, 7, ())));
     ledger.begin(2);
@@ -96,7 +99,7 @@ fn assert_clones_refused(rt: &impl Abort, ledger: &'static Ledger, alloc: Global
 
 #[test]
 fn a_refused_clone_makes_no_list(rt: HostRuntime) {
-    let ledger = check!(rt; Ledger::leaked(rt.alloc()));
+    let ledger = leaked_ledger(&rt, rt.alloc());
     for refused in 1..4 {
         assert_clones_refused(&rt, ledger, rt.alloc(), refused);
         check!(rt; same(ledger.live.get(), 0));
@@ -105,7 +108,7 @@ fn a_refused_clone_makes_no_list(rt: HostRuntime) {
 
 #[test]
 fn refused_extend_returns_the_item_in_hand(rt: HostRuntime) {
-    let refusing = check!(rt; Refusing::leaked(rt.alloc(), 2));
+    let refusing = leaked_refusing(&rt, rt.alloc(), 2);
     let mut list = ThinVec::new(refusing);
     let items = Hinted::new(check!(rt; [1, 2, 3, 4, 5].to_vec(rt.alloc())), 0);
     let ExtendRefused {
@@ -120,7 +123,7 @@ fn refused_extend_returns_the_item_in_hand(rt: HostRuntime) {
 
 #[test]
 fn refused_finish_returns_the_item_in_hand(rt: HostRuntime) {
-    let refusing = check!(rt; Refusing::leaked(rt.alloc(), 2));
+    let refusing = leaked_refusing(&rt, rt.alloc(), 2);
     let mut list = check!(rt; thin_vec![refusing => 1, 2, 3, 4, 5]);
     let items = Hinted::new(check!(rt; [10, 11, 12].to_vec(rt.alloc())), 0);
     let SpliceRefused {
@@ -138,7 +141,7 @@ fn refused_finish_returns_the_item_in_hand(rt: HostRuntime) {
 // request, which would make the list grow, is refused.
 #[test]
 fn refused_finish_returns_the_held_items(rt: HostRuntime) {
-    let refusing = check!(rt; Refusing::leaked(rt.alloc(), 3));
+    let refusing = leaked_refusing(&rt, rt.alloc(), 3);
     let mut list = check!(rt; thin_vec![refusing => 1, 2, 3]);
     let items = Hinted::new(check!(rt; [7, 8, 9].to_vec(rt.alloc())), 0);
     let SpliceRefused {

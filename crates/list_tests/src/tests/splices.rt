@@ -1,9 +1,11 @@
 //! Tests of `splice`: what the list has after `finish`, and what a refused `finish` returns.
 ghost use Rattle.std.specs.Prelude.{◌≤◌, length};
 
+use crate::check;
+use crate::checks::leaked_refusing;
 use std::process::Abort;
 use thin_runner::hinted::Hinted;
-use thin_testing::{Lender, Refusing, check, splice};
+use thin_testing::{Lender, splice};
 use thin_vec::{SpliceRefused, ThinVecError};
 
 const NEW: [i32; 5] = [10, 11, 12, 13, 14];
@@ -25,7 +27,7 @@ const FINISHED: [(&'static [i32], usize, &'static [i32], usize, u64); 9] = [
 #[test]
 fn finish_inserts_the_items(rt: HostRuntime) {
     for &(new, lower, items, capacity, requests) in &FINISHED {
-        let refusing = check!(rt; Refusing::leaked(rt.alloc(), 0));
+        let refusing = leaked_refusing(&rt, rt.alloc(), 0);
         let mut list = check!(rt; list_of(refusing, &[1, 2, 3, 4, 5]));
         check!(rt; has_len(&list, 5));
         let iter = Hinted::new(check!(rt; new.to_vec(rt.alloc())), lower);
@@ -137,7 +139,7 @@ const REFUSED: [(usize, u64, Left); 4] = [
 #[test]
 fn finish_returns_each_item_if_a_growth_is_refused(rt: HostRuntime) {
     for &(lower, request, left) in &REFUSED {
-        let lender = check!(rt; Refusing::leaked(rt.alloc(), request));
+        let lender = leaked_refusing(&rt, rt.alloc(), request);
         let iter = Hinted::new(check!(rt; NEW.to_vec(rt.alloc())), lower);
         assert_refused(&rt, lender, &[1, 2, 3, 4, 5], (2, 4), iter, left);
         check!(rt; counts(lender, request, 0));
@@ -167,7 +169,7 @@ fn overflow(items: &'static [i32], capacity: usize) -> Left {
 
 #[test]
 fn finish_overflows_by_the_hint_if_the_range_is_full(rt: HostRuntime) {
-    let lender = check!(rt; Refusing::leaked(rt.alloc(), 0));
+    let lender = leaked_refusing(&rt, rt.alloc(), 0);
     let nine = Hinted::new(check!(rt; [9].to_vec(rt.alloc())), usize::MAX);
     assert_refused(
         &rt,

@@ -1,10 +1,12 @@
 //! Tests of functions of std that make lists or write to one, with ample memory and with each
 //! request refused in turn.
+use crate::check;
+use crate::checks::{leaked_ledger, leaked_refusing};
 use std::alloc::AllocError;
 use std::io::{self, ErrorKind, Write};
 use std::mem;
 use std::process::Abort;
-use thin_testing::{Counted, Ledger, Lender, Refusing, check};
+use thin_testing::{Counted, Ledger, Lender};
 use thin_vec::ThinVec;
 
 // A list whose items and requests a ledger counts.
@@ -61,7 +63,7 @@ fn assert_made(
 
 #[test]
 fn try_collect_partition_and_unzip_fail_only_if_a_request_is_refused(rt: HostRuntime) {
-    let ledger = check!(rt; Ledger::leaked(rt.alloc()));
+    let ledger = leaked_ledger(&rt, rt.alloc());
     assert_made(&rt, ledger, 0, (10, 16), 3);
     assert_made(&rt, ledger, 1, (3, 7), 3);
     assert_made(&rt, ledger, 2, (10, 10), 6);
@@ -102,7 +104,7 @@ fn assert_written(rt: &impl Abort, lender: Lender, is_copy: bool, whole: &[u8], 
 
 #[test]
 fn writeln_and_copy_append_their_bytes_or_the_first_of_them(rt: HostRuntime) {
-    let lender = check!(rt; Refusing::leaked(rt.alloc(), 0));
+    let lender = leaked_refusing(&rt, rt.alloc(), 0);
     for refused in 0..6 {
         assert_written(&rt, lender, false, LINE, refused);
         assert_written(&rt, lender, true, &BYTES, refused);
@@ -111,7 +113,7 @@ fn writeln_and_copy_append_their_bytes_or_the_first_of_them(rt: HostRuntime) {
 
 #[test]
 fn try_take_leaves_the_allocator(rt: HostRuntime) {
-    let lender = check!(rt; Refusing::leaked(rt.alloc(), 0));
+    let lender = leaked_refusing(&rt, rt.alloc(), 0);
     let mut list = check!(rt; list_of(lender, &[1, 2]));
     let taken = check!(rt; mem::try_take(&mut list));
     check!(rt; same_items(&taken, &[1, 2]));

@@ -1,9 +1,11 @@
 //! Tests how lists and iterators are printed: on one line, on several lines, with the other options
 //! of `{:?}`, and to a writer that fails.
+use crate::check;
+use crate::checks::leaked_refusing;
+use crate::texts::{prints, prints_as};
 use std::alloc::{Allocator, Global};
 use std::fmt::{self, Debug};
 use std::process::Abort;
-use thin_testing::{Refusing, check, prints, prints_as};
 use thin_vec::ThinVec;
 
 // An iterator of the given name with the items that it has left, which is printed as one of
@@ -66,7 +68,7 @@ fn assert_into_iter_prints<T: Copy + Debug + Drop, A: Allocator>(
 // as the items that they have left. Also asserts that printing requests no memory from the
 // allocator of the list.
 fn assert_printed_as_slices<T: Copy + Debug + Drop>(rt: &impl Abort, alloc: Global, items: &[T]) {
-    let refusing = check!(rt; Refusing::leaked(alloc, 0));
+    let refusing = leaked_refusing(rt, alloc, 0);
     let mut list = check!(rt; list_of(refusing, items));
     check!(rt; list.reserve(300));
     let other = check!(rt; list_of(refusing, items));

@@ -1,5 +1,7 @@
 //! Tests of a list through the traits of std: `clone_from` and `or_default` with the capacities of
 //! their lists, which calls make no request, and the requests and the closures of sorts.
+use crate::check;
+use crate::checks::{leaked_ledger, leaked_refusing};
 use std::alloc::{AllocError, Allocator};
 use std::cmp::Ordering;
 use std::collections::HashMap;
@@ -7,7 +9,7 @@ use std::convert::AsSlice;
 use std::hash::{DefaultHasher, Hash};
 use std::ops::Bound;
 use std::process::Abort;
-use thin_testing::{Counted, Ledger, Lender, Refusing, check};
+use thin_testing::{Counted, Ledger, Lender};
 use thin_vec::{ThinVec, ThinVecError, bounds};
 
 // Clones `source` into the list at the second try. The request of the first try is refused.
@@ -43,8 +45,8 @@ fn assert_block_replaced(
 
 #[test]
 fn clone_from_replaces_the_block(rt: HostRuntime) {
-    let own = check!(rt; Refusing::leaked(rt.alloc(), 0));
-    let other = check!(rt; Refusing::leaked(rt.alloc(), 0));
+    let own = leaked_refusing(&rt, rt.alloc(), 0);
+    let other = leaked_refusing(&rt, rt.alloc(), 0);
     let mut source = check!(rt; list_of(other, &[1, 2, 3]));
     check!(rt; source.reserve(5));
     assert_block_replaced(&rt, own, other, &source);
@@ -52,7 +54,7 @@ fn clone_from_replaces_the_block(rt: HostRuntime) {
 
 #[test]
 fn or_default_makes_a_list_without_a_block(rt: HostRuntime) {
-    let lender = check!(rt; Refusing::leaked(rt.alloc(), 0));
+    let lender = leaked_refusing(&rt, rt.alloc(), 0);
     let mut lists = HashMap::new(lender);
     let list: &mut ThinVec<i32, Lender> = check!(rt; lists.entry(1_u32)).or_default();
     check!(rt; same(list.capacity(), 0));
@@ -99,7 +101,7 @@ fn count<T: Drop, A: Allocator>(list: ThinVec<T, A>, is_reverse: bool) -> usize 
 
 #[test]
 fn slice_methods_make_no_request(rt: HostRuntime) {
-    let refusing = check!(rt; Refusing::leaked(rt.alloc(), 0));
+    let refusing = leaked_refusing(&rt, rt.alloc(), 0);
     for len in [0, 1, 9, 300] {
         refusing.refuse(0);
         let mut list = ThinVec::new(refusing);
@@ -173,7 +175,7 @@ fn assert_sort(
 
 #[test]
 fn sorts_request_memory_only_if_they_need_it_and_drop_their_closures(rt: HostRuntime) {
-    let ledger = check!(rt; Ledger::leaked(rt.alloc()));
+    let ledger = leaked_ledger(&rt, rt.alloc());
     for (way, first, second, requests) in [
         (0, 5, 15, 0),
         (0, 20, 10, 1),
@@ -197,7 +199,7 @@ fn sorts_request_memory_only_if_they_need_it_and_drop_their_closures(rt: HostRun
 
 #[test]
 fn sort_requests_memory_for_more_than_twenty_items(rt: HostRuntime) {
-    let refusing = check!(rt; Refusing::leaked(rt.alloc(), 0));
+    let refusing = leaked_refusing(&rt, rt.alloc(), 0);
     for (second, requests) in [(10, 0), (11, 1), (3990, 1)] {
         let mut list = check!(rt; two_runs(refusing, 10, second));
         refusing.refuse(0);

@@ -1,13 +1,14 @@
 //! Tests of a list of bytes to which `write`, `write_all`, `write_vectored` or `write!` appends.
+use crate::check;
+use crate::checks::leaked_refusing;
 use std::alloc::Global;
 use std::io::{ErrorKind, IoSlice, Write};
 use std::process::Abort;
-use thin_testing::{Refusing, check};
 use thin_vec::ThinVec;
 
 // Asserts that `write_all` and `write` fail if the memory is refused, and leave the list.
 fn assert_write_refused(rt: &impl Abort, alloc: Global, bytes: &[u8]) {
-    let refusing = check!(rt; Refusing::leaked(alloc, 0));
+    let refusing = leaked_refusing(rt, alloc, 0);
     let mut list = check!(rt; list_of(refusing, bytes));
     refusing.refuse(1);
     let error = check!(rt; list.write_all(&[7, 8]).err());
@@ -20,7 +21,7 @@ fn assert_write_refused(rt: &impl Abort, alloc: Global, bytes: &[u8]) {
 
 // Asserts that `write_vectored` and `write!` fail in the same way.
 fn assert_other_writes_refused(rt: &impl Abort, alloc: Global, bytes: &[u8]) {
-    let refusing = check!(rt; Refusing::leaked(alloc, 0));
+    let refusing = leaked_refusing(rt, alloc, 0);
     let mut list = check!(rt; list_of(refusing, bytes));
     refusing.refuse(1);
     let slices = [IoSlice::new(&[7]), IoSlice::new(&[8])];

@@ -318,8 +318,8 @@ impl<T: Numbered> Fills<T, Doubling> for Collect {
 }
 
 /// Makes the call on lists of the given lengths from several iterators, and on a list without items
-/// from iterators over thousands of items whose hints are 0 and exact. Refuses each of the requests
-/// in turn.
+/// from iterators over thousands of items whose lower bounds are 0 and the number of items. Refuses
+/// each of the requests in turn.
 pub fn fill_lists<F: Fills<T, G>, T: Numbered, G: Ruled, R: Abort>(
     rt: &R,
     ledger: &'static Ledger,

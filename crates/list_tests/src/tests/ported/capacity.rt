@@ -1,8 +1,10 @@
 //! The capacity after each call.
+use crate::check;
+use crate::checks::leaked_refusing;
 use std::alloc::Global;
 use std::mem::size_of;
 use std::process::Abort;
-use thin_testing::{Lender, Refusing, check};
+use thin_testing::Lender;
 use thin_vec::{ThinVec, ThinVecError};
 
 #[test]
@@ -72,7 +74,7 @@ fn assert_overflows<T: Drop>(rt: &impl Abort, alloc: Lender, capacity: usize) {
 
 #[test]
 fn with_capacity_detects_overflow_before_any_request(rt: HostRuntime) {
-    let refusing = check!(rt; Refusing::leaked(rt.alloc(), 0));
+    let refusing = leaked_refusing(&rt, rt.alloc(), 0);
     let most = isize::MAX as usize;
     for capacity in [most - 16, most - 2, most, most + 1] {
         assert_overflows::<u8>(&rt, refusing, capacity);

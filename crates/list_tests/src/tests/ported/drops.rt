@@ -1,11 +1,14 @@
 //! When items are dropped: each one once. Dropping an empty list makes no request.
+use crate::check;
+use crate::checks::leaked_ledger;
+use crate::lists::counted_list;
 use std::iter::once;
-use thin_testing::{Counted, Ledger, Refusing, check, counted_list};
+use thin_testing::{Counted, Refusing};
 use thin_vec::ThinVec;
 
 #[test]
 fn truncate_drops_each_removed_item_once(rt: HostRuntime) {
-    let ledger = check!(rt; Ledger::leaked(rt.alloc()));
+    let ledger = leaked_ledger(&rt, rt.alloc());
     let mut list = check!(rt; counted_list(ledger, rt.alloc(), 5));
     for len in [3, 0] {
         list.truncate(len);
@@ -23,7 +26,7 @@ struct TwoLists {
 
 #[test]
 fn dropping_a_moved_list_drops_its_item_once(rt: HostRuntime) {
-    let ledger = check!(rt; Ledger::leaked(rt.alloc()));
+    let ledger = leaked_ledger(&rt, rt.alloc());
     let lists = TwoLists {
         early: check!(rt; counted_list(ledger, rt.alloc(), 1)),
         late: check!(rt; counted_list(ledger, rt.alloc(), 1)),
@@ -37,7 +40,7 @@ fn dropping_a_moved_list_drops_its_item_once(rt: HostRuntime) {
 
 #[test]
 fn extend_moves_an_item_without_dropping_it(rt: HostRuntime) {
-    let ledger = check!(rt; Ledger::leaked(rt.alloc()));
+    let ledger = leaked_ledger(&rt, rt.alloc());
     let mut list: ThinVec<Counted<'static>> = ThinVec::new(rt.alloc());
     check!(rt; list.extend(once(Counted::new(ledger, 1, ()))));
     check!(rt; same(ledger.live.get(), 1));

@@ -1,4 +1,5 @@
 //! `drain`, `splice`, and the calls that test items.
+use crate::check;
 use crate::tests::ported::boxes_of;
 use std::alloc::{Allocator, Global};
 use std::fmt::Debug;
@@ -6,7 +7,6 @@ use std::iter::empty;
 use std::ops::Bound;
 use std::ops::Bound::{Excluded, Included, Unbounded};
 use std::process::Abort;
-use thin_testing::check;
 use thin_vec::{Drain, bounds};
 
 type Range = (Bound<usize>, Bound<usize>);

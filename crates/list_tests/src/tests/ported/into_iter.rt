@@ -1,7 +1,8 @@
 //! The iterator `IntoIter`.
+use crate::check;
+use crate::lists::list_of;
 use std::alloc::Global;
 use std::process::Abort;
-use thin_testing::{check, list_of};
 use thin_vec::{IntoIter, ThinVec, ThinVecError};
 
 #[test]

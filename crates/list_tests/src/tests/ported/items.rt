@@ -1,6 +1,6 @@
 //! The items after each call.
+use crate::check;
 use crate::tests::ported::boxes_of;
-use thin_testing::check;
 use thin_vec::ThinVec;
 
 #[test]

@@ -1,10 +1,11 @@
 //! Makes the lists, vectors and steps of the tests. The test ends if there is no memory for them.
+use crate::check;
 use std::alloc::Allocator;
 use std::process::Abort;
 use thin_runner::command::{Command, Reply, Step};
 use thin_runner::judge::Judge;
 use thin_runner::runner::run;
-use thin_testing::{Counted, Ledger, Lender, Numbered, check};
+use thin_testing::{Counted, Ledger, Lender, Numbered};
 use thin_vec::{Growth, ThinVec, ThinVecError};
 
 /// An item that the ledger counts. A clone of it is a request.

@@ -1,10 +1,12 @@
 //! Tests of when a table requests memory, and of what a refused request leaves.
-use crate::tests::rows::{assert_row, assert_rows, assert_set};
+use crate::check;
+use crate::checks::leaked_refusing;
+use crate::clients::rows::{assert_row, assert_rows, assert_set};
 use std::alloc::{Allocator, Global};
 use std::fmt::Debug;
 use std::process::Abort;
 use thin_rows::{Rows, ThinVecError};
-use thin_testing::{Lender, Refusing, check};
+use thin_testing::{Lender, Refusing};
 
 // Removes a value, and asserts that it was `old`.
 fn assert_removed<V: PartialEq + Debug + Drop, A: Allocator>(
@@ -19,7 +21,7 @@ fn assert_removed<V: PartialEq + Debug + Drop, A: Allocator>(
 
 #[test]
 fn with_rows_returns_the_cause(rt: HostRuntime) {
-    let refusing = check!(rt; Refusing::leaked(rt.alloc(), 1));
+    let refusing = leaked_refusing(&rt, rt.alloc(), 1);
     let refused = Rows::<u32, &Refusing<Global>>::with_rows(refusing, 3).err();
     check!(rt; same(refused, Some(ThinVecError::OutOfMemory)));
     check!(rt; counts(refusing, 1, 0));
@@ -35,7 +37,7 @@ fn with_rows_returns_the_cause(rt: HostRuntime) {
 // request.
 fn assert_table_requests<V: Drop>(rt: &impl Abort, alloc: Global) {
     for rows in [0, 1, 2, 3, 5, 17, 100, 3000] {
-        let refusing = check!(rt; Refusing::leaked(alloc, 0));
+        let refusing = leaked_refusing(rt, alloc, 0);
         let table = check!(rt; Rows::<V, &Refusing<Global>>::with_rows(refusing, rows));
         let blocks = rows.min(1) as u64;
         let bytes = rows.saturating_add(1).saturating_mul(16) as u64;
@@ -118,7 +120,7 @@ fn assert_row_requests(rt: &impl Abort, refusing: Lender, count: usize, gap: usi
 
 #[test]
 fn only_a_new_entry_in_a_full_row_makes_a_request(rt: HostRuntime) {
-    let refusing = check!(rt; Refusing::leaked(rt.alloc(), 0));
+    let refusing = leaked_refusing(&rt, rt.alloc(), 0);
     for count in [0, 1, 2, 3, 4, 5, 8, 9, 64, 65, 200, 4096] {
         assert_row_requests(&rt, refusing, count, 1);
         assert_row_requests(&rt, refusing, count, 1 << 50);
@@ -127,7 +129,7 @@ fn only_a_new_entry_in_a_full_row_makes_a_request(rt: HostRuntime) {
 
 #[test]
 fn refused_set_leaves_an_empty_row_without_a_block(rt: HostRuntime) {
-    let refusing = check!(rt; Refusing::leaked(rt.alloc(), 2));
+    let refusing = leaked_refusing(&rt, rt.alloc(), 2);
     let mut table: Rows<u32, Lender> = check!(rt; Rows::with_rows(refusing, 2));
     assert_rows(&rt, &table, 2);
     let refused = check!(rt; table.set(1, 4, 8).err());
@@ -159,7 +161,7 @@ fn assert_reads(rt: &impl Abort, table: &Rows<u32, Lender>) {
 // Row 0 is full.
 #[test]
 fn calls_of_a_table_take_no_memory(rt: HostRuntime) {
-    let lender = check!(rt; Refusing::leaked(rt.alloc(), 0));
+    let lender = leaked_refusing(&rt, rt.alloc(), 0);
     let mut table: Rows<u32, Lender> = check!(rt; Rows::with_rows(lender, 2));
     for column in 0..4 {
         assert_set(&rt, &mut table, (0, column), 7, None);

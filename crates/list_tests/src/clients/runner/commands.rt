@@ -1,13 +1,15 @@
 //! Tests each command with each of its requests refused in turn.
-use crate::tests::runner::judges::Evens;
-use crate::tests::runner::made::{
+use crate::check;
+use crate::checks::leaked_ledger;
+use crate::clients::runner::judges::Evens;
+use crate::clients::runner::made::{
     Asked, Item, List, Ran, assert_clean, items, list_from, room, run_single, steps,
 };
-use crate::tests::runner::shown::{list_text, reply_text};
+use crate::clients::runner::shown::{list_text, reply_text};
 use std::alloc::{AllocError, Global};
 use std::process::Abort;
 use thin_runner::command::{Command, Reply};
-use thin_testing::{Ledger, Numbered, check};
+use thin_testing::{Ledger, Numbered};
 use thin_vec::Doubling;
 
 // What each command does on a list of the items 1, 2, 2, 3. A line has the capacity before and the
@@ -414,7 +416,7 @@ fn outcomes(rt: &impl Abort, ledger: &'static Ledger, number: usize) -> String {
 
 #[test]
 fn each_command_with_each_request_refused(rt: HostRuntime) {
-    let ledger = check!(rt; Ledger::leaked(rt.alloc()));
+    let ledger = leaked_ledger(&rt, rt.alloc());
     let mut number: usize = 0;
     for (command, wanted) in &OUTCOMES {
         let line = outcomes(&rt, ledger, number);

@@ -1,6 +1,8 @@
 //! Tests of `programs::replay`: the error messages, the exit status, and reads, writes and requests
 //! that fail. The files `stdin` and `stdout` of the program `thin_replay` test the answers.
-use crate::tests::page::Page;
+use crate::check;
+use crate::checks::leaked_refusing;
+use crate::clients::page::Page;
 use programs::replay::line::Line;
 use programs::replay::line_error::LineError;
 use programs::replay::replay_error::ReplayError;
@@ -10,7 +12,7 @@ use std::cell::Cell;
 use std::fmt::Display;
 use std::io::{self, BufReader, ErrorKind, Read};
 use std::process::Abort;
-use thin_testing::{Lender, Refusing, check};
+use thin_testing::Lender;
 
 // Asserts what is said about a line that has no form.
 fn assert_wrong(rt: &impl Abort, alloc: Global, line: &str, told: &str) {
@@ -266,7 +268,7 @@ fn answered_at(
 #[test]
 fn ends_at_each_refused_request(rt: HostRuntime) {
     let alloc = rt.alloc();
-    let refusing = check!(rt; Refusing::leaked(alloc, 0));
+    let refusing = leaked_refusing(&rt, alloc, 0);
     let (whole, answered) = replayed_from(&rt, alloc, refusing, ASKING.as_bytes(), (0, 0));
     check!(rt; same((answered.is_ok(), refusing.blocks()), (true, 0)));
     // How many lines are answered before the error, and how many different such numbers there are.

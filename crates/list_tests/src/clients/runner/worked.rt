@@ -1,14 +1,16 @@
 //! Tests of one run of six commands, and of the commands that ask a judge.
-use crate::tests::runner::judges::{Digits, Evens, TURNS};
-use crate::tests::runner::made::{
+use crate::check;
+use crate::checks::leaked_ledger;
+use crate::clients::runner::judges::{Digits, Evens, TURNS};
+use crate::clients::runner::made::{
     Asked, Item, List, Told, assert_clean, items, list_from, put, room, run_all, run_single, steps,
 };
-use crate::tests::runner::shown::{list_text, reply_text};
+use crate::clients::runner::shown::{list_text, reply_text};
 use std::process::Abort;
 use thin_runner::command::Command;
 use thin_runner::judge::Judge;
 use thin_runner::runner::step;
-use thin_testing::{Ledger, Lender, Numbered, check, numbered_items};
+use thin_testing::{Ledger, Lender, Numbered, numbered_items};
 use thin_vec::{ThinVec, ThinVecError};
 
 // Returns a command of the run.
@@ -139,14 +141,14 @@ fn assert_run(rt: &impl Abort, ledger: &'static Ledger, refused: u64, texts: &[&
 
 #[test]
 fn six_commands_by_one_run(rt: HostRuntime) {
-    let ledger = check!(rt; Ledger::leaked(rt.alloc()));
+    let ledger = leaked_ledger(&rt, rt.alloc());
     let is_refused = assert_run(&rt, ledger, 0, REFUSED[4]);
     check!(rt; same(is_refused, false));
 }
 
 #[test]
 fn six_commands_with_each_request_refused(rt: HostRuntime) {
-    let ledger = check!(rt; Ledger::leaked(rt.alloc()));
+    let ledger = leaked_ledger(&rt, rt.alloc());
     let mut refused: u64 = 0;
     for texts in &REFUSED {
         refused = refused.saturating_add(1);
@@ -173,7 +175,7 @@ fn assert_single<J: Judge<Item>>(
 
 #[test]
 fn six_commands_one_by_one(rt: HostRuntime) {
-    let ledger = check!(rt; Ledger::leaked(rt.alloc()));
+    let ledger = leaked_ledger(&rt, rt.alloc());
     let mut list: List<Item> = ThinVec::new(&ledger.alloc);
     let mut number: usize = 0;
     for texts in &RUN {
@@ -200,7 +202,7 @@ fn assert_judged<J: Judge<Item>>(
 
 #[test]
 fn a_judge_that_counts_its_calls(rt: HostRuntime) {
-    let ledger = check!(rt; Ledger::leaked(rt.alloc()));
+    let ledger = leaked_ledger(&rt, rt.alloc());
     let judge = Digits { digits: TURNS };
     let done = ("Done", "[1, 3, 5] 6");
     let extracted = ("Answers([Some(1), Some(3)])", "[2, 4, 5, 6] 6");
@@ -232,7 +234,7 @@ fn assert_asked(
 
 #[test]
 fn a_judge_is_asked_no_more_than_needed(rt: HostRuntime) {
-    let ledger = check!(rt; Ledger::leaked(rt.alloc()));
+    let ledger = leaked_ledger(&rt, rt.alloc());
     for len in [0_usize, 1, 2, 6, 100, 300] {
         let (pairs, more) = (len.saturating_sub(1), len.saturating_add(1));
         assert_asked(&rt, ledger, len, Command::Retain, len);

@@ -1,9 +1,11 @@
 //! Tests of when a table drops its values.
-use crate::tests::rows::assert_row;
+use crate::check;
+use crate::checks::leaked_ledger;
+use crate::clients::rows::assert_row;
 use std::alloc::Global;
 use std::process::Abort;
 use thin_rows::Rows;
-use thin_testing::{Counted, Ledger, check};
+use thin_testing::{Counted, Ledger};
 
 // Asserts that as many values are alive as the table has entries.
 fn assert_live<V>(rt: &impl Abort, ledger: &Ledger, table: &Rows<V>) {
@@ -82,7 +84,7 @@ fn assert_drops_by_retain_row(
 // Sets, removes and drops the values of a table whose rows have `count` entries each. Asserts after
 // each call how many values are alive.
 fn assert_drops(rt: &impl Abort, alloc: Global, rows: usize, count: usize) {
-    let ledger = check!(rt; Ledger::leaked(alloc));
+    let ledger = leaked_ledger(rt, alloc);
     let mut table = check!(rt; Rows::with_rows(alloc, rows));
     set_counted(rt, &mut table, ledger, count);
     set_counted(rt, &mut table, ledger, count);

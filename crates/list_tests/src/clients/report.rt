@@ -1,10 +1,11 @@
 //! Tests of the report about rows: a write fails, memory runs out, or a row fails. Also tests that
 //! a comparison of a row finds a wrong value.
-use crate::tests::page::Page;
+use crate::check;
+use crate::clients::page::Page;
 use programs::bench::{Checks, Outcome, report, report_rows};
 use std::alloc::{Allocator, Global};
 use std::process::Abort;
-use thin_testing::{Refusing, check};
+use thin_testing::Refusing;
 use thin_vec::{ThinVec, ThinVecError};
 
 // Returns what `report` writes if every row is ok. The missing numbers have tests, and no row.

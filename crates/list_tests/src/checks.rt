@@ -1,9 +1,12 @@
-//! Checks of values, of lists and of an allocator. Only a test may stop a program, so a check
-//! returns what is wrong, and the test stops with it by the macro `check!`.
+//! Checks of values, of lists and of an allocator. A check returns what is wrong, so that it can be
+//! seen failing. The macro `check!` stops the test with it.
 ghost use Rattle.std.specs.Prelude.{◌≡◌, IfOk, length};
 
-use refusing::Refusing;
+use crate::lists::list_of;
 use std::alloc::{Allocator, Global};
+use std::fmt::Debug;
+use std::process::Abort;
+use thin_testing::{Ledger, Refusing};
 use thin_vec::{Growth, ThinVec};
 
 /// What a check found, and what it wanted.
@@ -70,19 +73,94 @@ pub fn counts(
     same((refusing.requests(), refusing.blocks()), (requests, blocks))
 }
 
+/// Asserts that the two values are equal.
+pub fn assert_same<T: PartialEq + Debug + Drop>(rt: &impl Abort, found: T, wanted: T, check: &str) {
+    same(found, wanted).expect(rt, check);
+}
+
+/// Asserts that the two slices have equal items.
+pub fn assert_same_items<T: PartialEq + Debug>(
+    rt: &impl Abort,
+    found: &[T],
+    wanted: &[T],
+    check: &str,
+) {
+    same_items(found, wanted).expect(rt, check);
+}
+
+/// Asserts that the allocator has counted `requests` requests, and that `blocks` blocks are
+/// allocated.
+pub fn assert_counts(
+    rt: &impl Abort,
+    refusing: &Refusing<Global>,
+    requests: u64,
+    blocks: u64,
+    check: &str,
+) {
+    counts(refusing, requests, blocks).expect(rt, check);
+}
+
+/// Asserts that the list has the given items and the given capacity. The prover knows the length
+/// afterwards.
+pub fn assert_holds<A: Allocator, G: Growth>(
+    rt: &impl Abort,
+    list: &ThinVec<i32, A, G>,
+    items: &[i32],
+    capacity: usize,
+    check: &str,
+)
+    ensures len { length list.now.items ≡ length items.now }
+{
+    holds(list, items, capacity).expect(rt, check);
+}
+
+/// Asserts that the list has `len` items. The prover knows the length afterwards.
+pub fn assert_len<T, A: Allocator, G: Growth>(
+    rt: &impl Abort,
+    list: &ThinVec<T, A, G>,
+    len: usize,
+    check: &str,
+)
+    ensures len { length list.now.items ≡ len }
+{
+    has_len(list, len).expect(rt, check);
+}
+
+/// Returns a list of `items` without spare capacity.
+pub fn made_list<T: Copy + Drop, A: Allocator>(
+    rt: &impl Abort,
+    alloc: A,
+    items: &[T],
+    check: &str,
+) -> ThinVec<T, A>
+    ensures len { length result.items ≡ length items.now }
+{
+    list_of(alloc, items).expect(rt, check)
+}
+
+/// Returns a reference to an allocator that refuses request number `refused`, and that is never
+/// freed.
+pub fn leaked_refusing(rt: &impl Abort, inner: Global, refused: u64) -> &'static Refusing<Global> {
+    Refusing::leaked(inner, refused).expect(rt, "an allocator for the test")
+}
+
+/// Returns a reference to a ledger that is never freed.
+pub fn leaked_ledger(rt: &impl Abort, alloc: Global) -> &'static Ledger {
+    Ledger::leaked(alloc).expect(rt, "a ledger for the test")
+}
+
 /// Gives the value of a `Result` or an `Option`, and stops the test if there is none. The message
 /// has the expression and the error. The error of a check says what it found and what it wanted. A
 /// `?` prints the error alone, and takes longer to prove.
 ///
-/// The most frequent checks are calls of functions of the module `asserts` of the test crate, which
-/// take a third of the time to prove: only a test may stop a program, so they cannot stand here.
+/// The most frequent checks are calls of functions, which take a third of the time to prove.
 #[macro_export]
 macro_rules! check {
     ($rt:expr; same($found:expr, $wanted:expr)) => {
-        crate::asserts::assert_same(&$rt, $found, $wanted, stringify!(same($found, $wanted)))
+        crate::checks::assert_same(&$rt, $found, $wanted, stringify!(same($found, $wanted)))
     };
     ($rt:expr; same_items($found:expr, $wanted:expr)) => {
-        crate::asserts::assert_same_items(
+        crate::checks::assert_same_items(
             &$rt,
             $found,
             $wanted,
@@ -90,7 +168,7 @@ macro_rules! check {
         )
     };
     ($rt:expr; counts($refusing:expr, $requests:expr, $blocks:expr)) => {
-        crate::asserts::assert_counts(
+        crate::checks::assert_counts(
             &$rt,
             $refusing,
             $requests,
@@ -99,7 +177,7 @@ macro_rules! check {
         )
     };
     ($rt:expr; holds($list:expr, $items:expr, $capacity:expr)) => {
-        crate::asserts::assert_holds(
+        crate::checks::assert_holds(
             &$rt,
             $list,
             $items,
@@ -108,10 +186,10 @@ macro_rules! check {
         )
     };
     ($rt:expr; has_len($list:expr, $len:expr)) => {
-        crate::asserts::assert_len(&$rt, $list, $len, stringify!(has_len($list, $len)))
+        crate::checks::assert_len(&$rt, $list, $len, stringify!(has_len($list, $len)))
     };
     ($rt:expr; list_of($alloc:expr, $items:expr)) => {
-        crate::asserts::made_list(&$rt, $alloc, $items, stringify!(list_of($alloc, $items)))
+        crate::checks::made_list(&$rt, $alloc, $items, stringify!(list_of($alloc, $items)))
     };
     ($rt:expr; $checked:expr) => {
         $checked.expect(&$rt, stringify!($checked))

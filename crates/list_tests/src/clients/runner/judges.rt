@@ -1,7 +1,7 @@
 //! Defines the judges of the tests.
 ghost use Rattle.std.specs.Prelude.{◌≡◌, ◌==◌, ◌/◌, ◌%◌, false};
 
-use crate::tests::runner::made::Item;
+use crate::clients::runner::made::Item;
 use thin_runner::judge::Judge;
 use thin_testing::Ledger;
 

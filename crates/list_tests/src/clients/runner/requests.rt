@@ -1,11 +1,13 @@
 //! Tests of `run` and `step`: `run` makes no request for replies for which there is room, and a
 //! reply uses the allocator that was passed.
-use crate::tests::runner::judges::Digits;
+use crate::check;
+use crate::checks::leaked_refusing;
+use crate::clients::runner::judges::Digits;
 use std::alloc::Allocator;
 use std::process::Abort;
 use thin_runner::command::{Command, Reply, Step};
 use thin_runner::runner::{run, step};
-use thin_testing::{Lender, Refusing, check};
+use thin_testing::Lender;
 use thin_vec::ThinVec;
 
 // A judge that answers `false`.
@@ -13,7 +15,7 @@ const NEVER: Digits = Digits { digits: 0 };
 
 #[test]
 fn run_makes_no_request_without_commands(rt: HostRuntime) {
-    let refusing = check!(rt; Refusing::leaked(rt.alloc(), 1));
+    let refusing = leaked_refusing(&rt, rt.alloc(), 1);
     let mut list = ThinVec::<i32, Lender>::new(refusing);
     let mut replies = Vec::new(refusing);
     let commands = Vec::new(refusing);
@@ -42,7 +44,7 @@ fn assert_pops(rt: &impl Abort, lender: Lender, list: &mut ThinVec<i32, Lender>,
 
 #[test]
 fn run_makes_no_request_if_there_is_room_for_its_replies(rt: HostRuntime) {
-    let lender = check!(rt; Refusing::leaked(rt.alloc(), 0));
+    let lender = leaked_refusing(&rt, rt.alloc(), 0);
     let mut list = check!(rt; ThinVec::from_copies(lender, &[1, 2]));
     for count in [1, 2, 9] {
         assert_pops(&rt, lender, &mut list, count);
@@ -77,8 +79,8 @@ fn reply_on(rt: &impl Abort, own: Lender, other: Lender, number: u32) -> Reply<i
 
 #[test]
 fn a_reply_uses_the_allocator_passed(rt: HostRuntime) {
-    let own = check!(rt; Refusing::leaked(rt.alloc(), 0));
-    let other = check!(rt; Refusing::leaked(rt.alloc(), 0));
+    let own = leaked_refusing(&rt, rt.alloc(), 0);
+    let other = leaked_refusing(&rt, rt.alloc(), 0);
     for number in 0..5 {
         let reply = reply_on(&rt, own, other, number);
         let found = (number, own.requests(), other.blocks());
@@ -98,8 +100,8 @@ fn fill<A: Allocator>(rt: &impl Abort, reply: &mut Reply<i32, A>) {
 
 #[test]
 fn a_reply_to_a_stopped_extend_uses_the_allocator_passed(rt: HostRuntime) {
-    let own = check!(rt; Refusing::leaked(rt.alloc(), 0));
-    let other = check!(rt; Refusing::leaked(rt.alloc(), 0));
+    let own = leaked_refusing(&rt, rt.alloc(), 0);
+    let other = leaked_refusing(&rt, rt.alloc(), 0);
     let mut list = check!(rt; ThinVec::from_copies(own, &[1, 2, 3]));
     let command = Command::Extend(Vec::new(own), usize::MAX);
     own.refuse(0);

@@ -8,11 +8,11 @@ mod requests;
 mod texts;
 mod walks;
 
+use crate::check;
 use std::alloc::Allocator;
 use std::fmt::Debug;
 use std::process::Abort;
 use thin_rows::Rows;
-use thin_testing::check;
 
 /// Asserts how many rows the table has. The prover knows it afterwards.
 pub fn assert_rows<V, A: Allocator>(rt: &impl Abort, table: &Rows<V, A>, rows: usize)

@@ -1,5 +1,5 @@
 //! Prints replies and lists.
-use crate::tests::runner::made::{Asked, Item, List, Told};
+use crate::clients::runner::made::{Asked, Item, List, Told};
 use std::alloc::{AllocError, Global};
 use std::fmt::Debug;
 use thin_runner::command::{Command, Reply};

@@ -1,10 +1,12 @@
 //! Tests of calls that visit all entries of a sparse table `Rows`: what a clone requests, what a
 //! refused one leaves, and how often values are compared.
-use crate::tests::rows::assert_row;
+use crate::check;
+use crate::checks::{leaked_ledger, leaked_refusing};
+use crate::clients::rows::assert_row;
 use std::alloc::{AllocError, Allocator};
 use std::process::Abort;
 use thin_rows::{Rows, ThinVecError};
-use thin_testing::{Counted, Ledger, Lender, Refusing, check};
+use thin_testing::{Counted, Ledger, Lender};
 
 // The numbers of rows, and of entries in each row with an odd number.
 type Size = (usize, usize);
@@ -59,8 +61,8 @@ fn assert_clone_requests(rt: &impl Abort, own: Lender, other: Lender, size: Size
 
 #[test]
 fn a_clone_requests_what_its_rows_and_entries_take(rt: HostRuntime) {
-    let own = check!(rt; Refusing::leaked(rt.alloc(), 0));
-    let other = check!(rt; Refusing::leaked(rt.alloc(), 0));
+    let own = leaked_refusing(&rt, rt.alloc(), 0);
+    let other = leaked_refusing(&rt, rt.alloc(), 0);
     for size in SIZES {
         assert_clone_requests(&rt, own, other, size);
     }
@@ -72,7 +74,7 @@ fn cloned<T: Clone>(value: &T) -> Result<T, AllocError> {
 
 #[test]
 fn the_trait_clones_by_the_allocator_of_the_table(rt: HostRuntime) {
-    let own = check!(rt; Refusing::leaked(rt.alloc(), 0));
+    let own = leaked_refusing(&rt, rt.alloc(), 0);
     for size in SIZES {
         own.refuse(0);
         let table = table_of(&rt, own, size);
@@ -113,7 +115,7 @@ fn assert_clones_refused(rt: &impl Abort, ledger: &'static Ledger, table: &Table
 
 #[test]
 fn a_refused_clone_frees_its_rows(rt: HostRuntime) {
-    let ledger = check!(rt; Ledger::leaked(rt.alloc()));
+    let ledger = leaked_ledger(&rt, rt.alloc());
     for size in [(1, 1), (1, 5), (2, 1), (3, 4), (2, 50)] {
         let table = counted_table(&rt, ledger, size);
         ledger.begin(0);
@@ -128,7 +130,7 @@ fn a_refused_clone_frees_its_rows(rt: HostRuntime) {
 
 #[test]
 fn a_comparison_compares_each_value_once(rt: HostRuntime) {
-    let ledger = check!(rt; Ledger::leaked(rt.alloc()));
+    let ledger = leaked_ledger(&rt, rt.alloc());
     for size in [(0, 0), (1, 1), (3, 4)] {
         let table = counted_table(&rt, ledger, size);
         let other = counted_table(&rt, ledger, size);

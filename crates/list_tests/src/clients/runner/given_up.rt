@@ -1,11 +1,13 @@
 //! Tests of `Drain`, `ExtractIf` and `Splice` that are given up or finished after each number of
 //! steps, in each order of ends, one step past the range among them.
-use crate::tests::runner::judges::Digits;
-use crate::tests::runner::made::{Asked, Item, List, Told, assert_clean, is_one, room, steps};
+use crate::check;
+use crate::checks::leaked_ledger;
+use crate::clients::runner::judges::Digits;
+use crate::clients::runner::made::{Asked, Item, List, Told, assert_clean, is_one, room, steps};
 use std::process::Abort;
 use thin_runner::command::{Command, Reply};
 use thin_runner::runner::step;
-use thin_testing::{Ledger, Lender, Numbered, check, filled_list, numbered_items};
+use thin_testing::{Ledger, Lender, Numbered, filled_list, numbered_items};
 
 // The number of the first new item of a splice.
 const NEW: u64 = 200;
@@ -300,7 +302,7 @@ fn assert_long_ranges<T: Numbered>(rt: &impl Abort, ledger: &'static Ledger) {
 
 #[test]
 fn edits_of_counted_items_after_each_number_of_steps(rt: HostRuntime) {
-    let ledger = check!(rt; Ledger::leaked(rt.alloc()));
+    let ledger = leaked_ledger(&rt, rt.alloc());
     assert_ranges::<Item>(&rt, ledger);
     assert_long_ranges::<Item>(&rt, ledger);
 }
@@ -309,7 +311,7 @@ fn edits_of_counted_items_after_each_number_of_steps(rt: HostRuntime) {
 // end, with one step, and everything, with none.
 #[test]
 fn drain_of_six_items_after_each_sequence_of_steps(rt: HostRuntime) {
-    let ledger = check!(rt; Ledger::leaked(rt.alloc()));
+    let ledger = leaked_ledger(&rt, rt.alloc());
     assert_walks::<Item>(&rt, ledger, Edit::new(Kind::Drain, 6, 1, 5), 5);
     assert_walks::<Item>(&rt, ledger, Edit::new(Kind::Drain, 6, 6, 6), 1);
     assert_walks::<Item>(&rt, ledger, Edit::new(Kind::Drain, 6, 0, 6), 0);
@@ -324,7 +326,7 @@ fn assert_unclaimed<T: Numbered>(rt: &impl Abort, ledger: &'static Ledger, edit:
 
 #[test]
 fn extend_and_splice_of_up_to_300_unclaimed_items(rt: HostRuntime) {
-    let ledger = check!(rt; Ledger::leaked(rt.alloc()));
+    let ledger = leaked_ledger(&rt, rt.alloc());
     assert_unclaimed::<Item>(&rt, ledger, Edit::new(Kind::Extend, 3, 3, 3));
     assert_unclaimed::<Item>(&rt, ledger, Edit::new(Kind::Splice, 3, 1, 2));
     assert_unclaimed::<i32>(&rt, ledger, Edit::new(Kind::Extend, 3, 3, 3));

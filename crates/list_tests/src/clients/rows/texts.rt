@@ -1,10 +1,13 @@
 //! Tests of how a table is printed: as a list of maps.
-use crate::tests::rows::{assert_row, assert_set};
+use crate::check;
+use crate::checks::leaked_refusing;
+use crate::clients::rows::{assert_row, assert_set};
+use crate::texts::{prints, prints_as};
 use std::alloc::Global;
 use std::collections::BTreeMap;
 use std::process::Abort;
 use thin_rows::Rows;
-use thin_testing::{Lender, Refusing, check, prints, prints_as};
+use thin_testing::Lender;
 
 type Map = BTreeMap<usize, i32>;
 
@@ -42,7 +45,7 @@ fn filled_row(
 // greatest column, is printed as a list of maps. Also asserts that printing requests no memory from
 // the allocator of the table.
 fn assert_printed_as_maps(rt: &impl Abort, alloc: Global, rows: usize, count: usize) {
-    let refusing = check!(rt; Refusing::leaked(alloc, 0));
+    let refusing = leaked_refusing(rt, alloc, 0);
     let mut table = check!(rt; Rows::with_rows(refusing, rows));
     let mut maps: Vec<Map> = Vec::new(alloc);
     for row in 0..rows {

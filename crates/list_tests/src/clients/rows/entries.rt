@@ -1,14 +1,16 @@
 //! Tests of the entries of a row, and that a table is `Send` and `Sync`.
-use crate::tests::rows::assert_rows;
+use crate::check;
+use crate::checks::leaked_refusing;
+use crate::clients::rows::assert_rows;
 use std::marker::{Send, Sync};
 use thin_rows::Rows;
-use thin_testing::{Lender, Refusing, check};
+use thin_testing::Lender;
 
 type Table = Rows<u32, Lender>;
 
 #[test]
 fn row_is_in_the_order_of_the_columns(rt: HostRuntime) {
-    let refusing = check!(rt; Refusing::leaked(rt.alloc(), 0));
+    let refusing = leaked_refusing(&rt, rt.alloc(), 0);
     let mut table = check!(rt; Table::with_rows(refusing, 1));
     assert_rows(&rt, &table, 1);
     let old = check!(rt; table.set(0, usize::MAX, 1));

@@ -1,12 +1,14 @@
 //! Commands on long lists, and under a growth rule of the tests, with requests refused. As in
 //! `thin_vec_sweep`, the list itself says what is right. Also runs of thousands of commands.
-use crate::tests::runner::judges::{Digits, TURNS};
-use crate::tests::runner::made::{Ran, assert_clean, room, run_single, steps};
+use crate::check;
+use crate::checks::leaked_ledger;
+use crate::clients::runner::judges::{Digits, TURNS};
+use crate::clients::runner::made::{Ran, assert_clean, room, run_single, steps};
 use std::process::Abort;
 use thin_runner::command::{Command, Reply};
 use thin_runner::runner::run;
 use thin_testing::{
-    Counted, Ledger, Lender, List, Numbered, Threefold, check, filled_list, numbered_items,
+    Counted, Ledger, Lender, List, Numbered, Threefold, filled_list, numbered_items,
 };
 use thin_vec::{Doubling, Growth, ThinVec, ThinVecError};
 
@@ -128,7 +130,7 @@ fn assert_commands<T: Numbered, G: Growth>(rt: &impl Abort, ledger: &'static Led
 
 #[test]
 fn commands_under_another_growth_rule_request_what_they_need(rt: HostRuntime) {
-    let ledger = check!(rt; Ledger::leaked(rt.alloc()));
+    let ledger = leaked_ledger(&rt, rt.alloc());
     assert_commands::<Counted<'static, u64>, Threefold>(&rt, ledger, 40);
 }
 
@@ -177,7 +179,7 @@ fn assert_long_run<T: Numbered, G: Growth>(rt: &impl Abort, ledger: &'static Led
 
 #[test]
 fn runs_of_long_lists_are_right(rt: HostRuntime) {
-    let ledger = check!(rt; Ledger::leaked(rt.alloc()));
+    let ledger = leaked_ledger(&rt, rt.alloc());
     assert_commands::<Counted<'static>, Doubling>(&rt, ledger, 3000);
     assert_long_run::<Counted<'static>, Doubling>(&rt, ledger);
 }
