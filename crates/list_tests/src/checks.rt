@@ -4,7 +4,7 @@ ghost use Rattle.std.specs.Prelude.{◌≡◌, IfOk, length};
 
 use crate::lists::list_of;
 use std::alloc::{Allocator, Global};
-use std::fmt::Debug;
+use std::fmt::{self, Debug, Display, Formatter, Write};
 use std::process::Abort;
 use thin_testing::{Ledger, Refusing};
 use thin_vec::{Growth, ThinVec};
@@ -73,9 +73,56 @@ pub fn counts(
     same((refusing.requests(), refusing.blocks()), (requests, blocks))
 }
 
+// The number of bytes of a message. What is longer is cut off.
+const MESSAGE: usize = 500;
+
+// What is said when a test stops. All messages have this type, since LLVM compiles the printing of
+// a message anew for each type.
+#[derive(Drop)]
+struct Message {
+    bytes: [u8; MESSAGE],
+    len: usize,
+}
+
+impl Write for Message {
+    fn write_str(&mut self, text: &str) -> fmt::Result {
+        for byte in text.as_bytes() {
+            if self.len < MESSAGE {
+                self.bytes[self.len] = *byte;
+                self.len = self.len.saturating_add(1);
+            }
+        }
+        Ok(())
+    }
+}
+
+impl Display for Message {
+    fn fmt<W: Write>(&self, f: &mut Formatter<W>) -> fmt::Result {
+        for byte in &self.bytes {
+            if *byte != 0 {
+                f.write_char(char::from(*byte))?;
+            }
+        }
+        Ok(())
+    }
+}
+
+// Stops the test. The message has the text of the check, and the error.
+#[inline(never)]
+fn stop<E: Debug>(rt: &impl Abort, check: &str, error: &E) -> ! {
+    let mut message = Message {
+        bytes: [0; MESSAGE],
+        len: 0,
+    };
+    let _ = write!(message, "{check}: {error:?}");
+    panic!(rt; "{message}")
+}
+
 /// Asserts that the two values are equal.
 pub fn assert_same<T: PartialEq + Debug + Drop>(rt: &impl Abort, found: T, wanted: T, check: &str) {
-    same(found, wanted).expect(rt, check);
+    if let Err(different) = same(found, wanted) {
+        stop(rt, check, &different)
+    }
 }
 
 /// Asserts that the two slices have equal items.
@@ -85,7 +132,9 @@ pub fn assert_same_items<T: PartialEq + Debug>(
     wanted: &[T],
     check: &str,
 ) {
-    same_items(found, wanted).expect(rt, check);
+    if let Err(different) = same_items(found, wanted) {
+        stop(rt, check, &different)
+    }
 }
 
 /// Asserts that the allocator has counted `requests` requests, and that `blocks` blocks are

@@ -1,6 +1,6 @@
 //! Makes the common calls, and prints what each example of them leaves in the list. Then prints a
-//! sparse matrix, its transpose, its sum with itself, and its product with a vector. The contracts
-//! of the other examples say what these do.
+//! sparse matrix, its transpose, its sum with itself, and its product with a vector. Most of the
+//! other examples have contracts, which say what they do.
 #![tactic(auto)]
 
 mod add;

@@ -9,8 +9,8 @@ use std::fmt;
 use thin_rows::{Rows, ThinVecError};
 use thin_vec::ThinVec;
 
-/// A matrix of numbers. Only the numbers that are not 0 take memory. Sums and products saturate at
-/// `u64::MAX`.
+/// A matrix of numbers. A number that is 0 takes no memory, but each row does. Sums and products
+/// saturate at `u64::MAX`.
 #[derive(Drop)]
 pub struct Matrix<A: Allocator = Global> {
     numbers: Rows<u64, A>,

@@ -104,7 +104,7 @@ fn sweeps_u128(rt: HostRuntime) {
 
 #[test]
 fn sweeps_items_of_320_bytes(rt: HostRuntime) {
-    sweep_all::<[u64; 40], _>(&rt, rt.alloc(), &[50]);
+    sweep_sizes::<[u64; 40], _>(&rt, rt.alloc(), &[50]);
 }
 
 #[test]

@@ -30,6 +30,8 @@ static COMMANDS: [&str; 22] = [
     "redo",
 ];
 
+// Carries out one command. LLVM would inline the whole editor at each call.
+#[inline(never)]
 fn carry_out<A: Allocator + Copy>(
     alloc: A,
     editor: &mut Editor<String<A>, A>,

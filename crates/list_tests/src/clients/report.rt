@@ -3,7 +3,7 @@
 use crate::check;
 use crate::clients::page::Page;
 use programs::bench::{Checks, Outcome, report, report_rows};
-use std::alloc::{Allocator, Global};
+use std::alloc::Global;
 use std::process::Abort;
 use thin_testing::Refusing;
 use thin_vec::{ThinVec, ThinVecError};
@@ -23,7 +23,7 @@ fn usual_text(rt: &impl Abort, alloc: Global) -> String {
 
 // Calls `report`, which writes to `text`. Call number `failing` to `write` fails. Returns the
 // status, and the number of calls to `write`.
-fn report_into<A: Allocator + Copy>(alloc: A, text: &mut String, failing: usize) -> (u8, usize) {
+fn report_into(alloc: &Refusing<Global>, text: &mut String, failing: usize) -> (u8, usize) {
     let mut out = Page {
         text,
         calls: 0,
@@ -35,7 +35,7 @@ fn report_into<A: Allocator + Copy>(alloc: A, text: &mut String, failing: usize)
 
 // Calls `report`, and asserts that it writes `whole` and returns 0. Returns the number of calls to
 // `write`.
-fn assert_whole<A: Allocator + Copy>(rt: &impl Abort, alloc: A, whole: &String) -> usize {
+fn assert_whole(rt: &impl Abort, alloc: &Refusing<Global>, whole: &String) -> usize {
     let mut text = String::new(*whole.allocator());
     let (status, writes) = report_into(alloc, &mut text, 0);
     check!(rt; same(status, 0));
@@ -61,7 +61,8 @@ fn assert_stops_at(rt: &impl Abort, whole: &String, failing: usize) {
 #[test]
 fn report_stops_at_a_failed_write(rt: HostRuntime) {
     let whole = usual_text(&rt, rt.alloc());
-    let writes = assert_whole(&rt, rt.alloc(), &whole);
+    let granting = Refusing::new(rt.alloc(), 0);
+    let writes = assert_whole(&rt, &granting, &whole);
     for failing in 1..=writes {
         assert_stops_at(&rt, &whole, failing);
     }

@@ -7,12 +7,12 @@ use programs::replay::line::Line;
 use programs::replay::line_error::LineError;
 use programs::replay::replay_error::ReplayError;
 use programs::replay::{exit_code, replay};
-use std::alloc::{AllocError, Allocator, Global};
+use std::alloc::{AllocError, Global};
 use std::cell::Cell;
 use std::fmt::Display;
 use std::io::{self, BufReader, ErrorKind, Read};
 use std::process::Abort;
-use thin_testing::Lender;
+use thin_testing::{Lender, Refusing};
 
 // Asserts what is said about a line that has no form.
 fn assert_wrong(rt: &impl Abort, alloc: Global, line: &str, told: &str) {
@@ -147,10 +147,10 @@ fn assert_exit(rt: &impl Abort, alloc: Global, answered: Result<(), ReplayError>
 
 // Replays the lines of `input` with memory from `source`. The read number `unread` and the write
 // number `unwritten` fail. Returns what is written, and how the replay ended.
-fn replayed_from<A: Allocator + Copy>(
+fn replayed_from(
     rt: &impl Abort,
     alloc: Global,
-    source: A,
+    source: &Refusing<Global>,
     input: &[u8],
     (unread, unwritten): (usize, usize),
 ) -> (String, Result<(), ReplayError>) {
@@ -180,7 +180,8 @@ fn replayed(
     failing: (usize, usize),
     told: &str,
 ) -> String {
-    let (text, answered) = replayed_from(rt, alloc, alloc, input, failing);
+    let granting = Refusing::new(alloc, 0);
+    let (text, answered) = replayed_from(rt, alloc, &granting, input, failing);
     assert_message(rt, alloc, &answered, told);
     assert_exit(rt, alloc, answered, told);
     text

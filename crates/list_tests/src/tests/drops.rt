@@ -2,7 +2,6 @@
 use crate::check;
 use crate::checks::leaked_ledger;
 use std::cell::Cell;
-use std::process::Abort;
 use thin_testing::{Counted, Ledger, List, filled_list};
 use thin_vec::Doubling;
 

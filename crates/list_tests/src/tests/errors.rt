@@ -3,7 +3,7 @@ use crate::check;
 use crate::checks::leaked_ledger;
 use crate::lists::counted_list;
 use crate::texts::prints_as;
-use std::alloc::{AllocError, Global};
+use std::alloc::AllocError;
 use std::error::Error;
 use std::fmt::{self, Debug};
 use std::io;
