@@ -76,8 +76,9 @@ pub fn counts(
 // The number of bytes of a message. What is longer is cut off.
 const MESSAGE: usize = 500;
 
-// What is said when a test stops. All messages have this type, since LLVM compiles the printing of
-// a message anew for each type.
+// The message with which a failed check stops the test. It has one type for all values, since LLVM
+// compiles the printing of a message anew for each type. Each byte of a text that is not ASCII is
+// printed as a character of its own.
 #[derive(Drop)]
 struct Message {
     bytes: [u8; MESSAGE],
@@ -107,46 +108,37 @@ impl Display for Message {
     }
 }
 
-// Stops the test. The message has the text of the check, and the error.
+// Stops the test. The message has what was found, and what was wanted.
 #[inline(never)]
-fn stop<E: Debug>(rt: &impl Abort, check: &str, error: &E) -> ! {
+fn stop<T: Debug>(rt: &impl Abort, found: &T, wanted: &T) -> ! {
     let mut message = Message {
         bytes: [0; MESSAGE],
         len: 0,
     };
-    let _ = write!(message, "{check}: {error:?}");
+    let _ = write!(message, "found {found:?}, wanted {wanted:?}");
     panic!(rt; "{message}")
 }
 
 /// Asserts that the two values are equal.
-pub fn assert_same<T: PartialEq + Debug + Drop>(rt: &impl Abort, found: T, wanted: T, check: &str) {
-    if let Err(different) = same(found, wanted) {
-        stop(rt, check, &different)
+pub fn assert_same<T: PartialEq + Debug + Drop>(rt: &impl Abort, found: T, wanted: T) {
+    if let Err(Different { found, wanted }) = same(found, wanted) {
+        stop(rt, &found, &wanted)
     }
 }
 
 /// Asserts that the two slices have equal items.
-pub fn assert_same_items<T: PartialEq + Debug>(
-    rt: &impl Abort,
-    found: &[T],
-    wanted: &[T],
-    check: &str,
-) {
-    if let Err(different) = same_items(found, wanted) {
-        stop(rt, check, &different)
+pub fn assert_same_items<T: PartialEq + Debug>(rt: &impl Abort, found: &[T], wanted: &[T]) {
+    if let Err(Different { found, wanted }) = same_items(found, wanted) {
+        stop(rt, &found, &wanted)
     }
 }
 
 /// Asserts that the allocator has counted `requests` requests, and that `blocks` blocks are
 /// allocated.
-pub fn assert_counts(
-    rt: &impl Abort,
-    refusing: &Refusing<Global>,
-    requests: u64,
-    blocks: u64,
-    check: &str,
-) {
-    counts(refusing, requests, blocks).expect(rt, check);
+pub fn assert_counts(rt: &impl Abort, refusing: &Refusing<Global>, requests: u64, blocks: u64) {
+    if let Err(Different { found, wanted }) = counts(refusing, requests, blocks) {
+        stop(rt, &found, &wanted)
+    }
 }
 
 /// Asserts that the list has the given items and the given capacity. The prover knows the length
@@ -156,23 +148,21 @@ pub fn assert_holds<A: Allocator, G: Growth>(
     list: &ThinVec<i32, A, G>,
     items: &[i32],
     capacity: usize,
-    check: &str,
 )
     ensures len { length list.now.items ≡ length items.now }
 {
-    holds(list, items, capacity).expect(rt, check);
+    if let Err(Different { found, wanted }) = holds(list, items, capacity) {
+        stop(rt, &found, &wanted)
+    }
 }
 
 /// Asserts that the list has `len` items. The prover knows the length afterwards.
-pub fn assert_len<T, A: Allocator, G: Growth>(
-    rt: &impl Abort,
-    list: &ThinVec<T, A, G>,
-    len: usize,
-    check: &str,
-)
+pub fn assert_len<T, A: Allocator, G: Growth>(rt: &impl Abort, list: &ThinVec<T, A, G>, len: usize)
     ensures len { length list.now.items ≡ len }
 {
-    has_len(list, len).expect(rt, check);
+    if let Err(Different { found, wanted }) = has_len(list, len) {
+        stop(rt, &found, &wanted)
+    }
 }
 
 /// Returns a list of `items` without spare capacity.
@@ -180,11 +170,10 @@ pub fn made_list<T: Copy + Drop, A: Allocator>(
     rt: &impl Abort,
     alloc: A,
     items: &[T],
-    check: &str,
 ) -> ThinVec<T, A>
     ensures len { length result.items ≡ length items.now }
 {
-    list_of(alloc, items).expect(rt, check)
+    list_of(alloc, items).expect(rt, "a list for the test")
 }
 
 /// Returns a reference to an allocator that refuses request number `refused`, and that is never
@@ -199,46 +188,29 @@ pub fn leaked_ledger(rt: &impl Abort, alloc: Global) -> &'static Ledger {
 }
 
 /// Gives the value of a `Result` or an `Option`, and stops the test if there is none. The message
-/// has the expression and the error. The error of a check says what it found and what it wanted. A
-/// `?` prints the error alone, and takes longer to prove.
+/// has the expression and the error. A `?` prints the error alone, and takes longer to prove.
 ///
-/// The most frequent checks are calls of functions, which take a third of the time to prove.
+/// The most frequent checks are calls of functions, whose messages have what was found and what was
+/// wanted. They take less than a third of the time to prove, also because no text is passed.
 #[macro_export]
 macro_rules! check {
     ($rt:expr; same($found:expr, $wanted:expr)) => {
-        crate::checks::assert_same(&$rt, $found, $wanted, stringify!(same($found, $wanted)))
+        crate::checks::assert_same(&$rt, $found, $wanted)
     };
     ($rt:expr; same_items($found:expr, $wanted:expr)) => {
-        crate::checks::assert_same_items(
-            &$rt,
-            $found,
-            $wanted,
-            stringify!(same_items($found, $wanted)),
-        )
+        crate::checks::assert_same_items(&$rt, $found, $wanted)
     };
     ($rt:expr; counts($refusing:expr, $requests:expr, $blocks:expr)) => {
-        crate::checks::assert_counts(
-            &$rt,
-            $refusing,
-            $requests,
-            $blocks,
-            stringify!(counts($refusing, $requests, $blocks)),
-        )
+        crate::checks::assert_counts(&$rt, $refusing, $requests, $blocks)
     };
     ($rt:expr; holds($list:expr, $items:expr, $capacity:expr)) => {
-        crate::checks::assert_holds(
-            &$rt,
-            $list,
-            $items,
-            $capacity,
-            stringify!(holds($list, $items, $capacity)),
-        )
+        crate::checks::assert_holds(&$rt, $list, $items, $capacity)
     };
     ($rt:expr; has_len($list:expr, $len:expr)) => {
-        crate::checks::assert_len(&$rt, $list, $len, stringify!(has_len($list, $len)))
+        crate::checks::assert_len(&$rt, $list, $len)
     };
     ($rt:expr; list_of($alloc:expr, $items:expr)) => {
-        crate::checks::made_list(&$rt, $alloc, $items, stringify!(list_of($alloc, $items)))
+        crate::checks::made_list(&$rt, $alloc, $items)
     };
     ($rt:expr; $checked:expr) => {
         $checked.expect(&$rt, stringify!($checked))

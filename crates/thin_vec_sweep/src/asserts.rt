@@ -1,10 +1,11 @@
 //! Assertions about a case, whose messages name it, and about numbers, which the prover knows
-//! afterwards.
+//! afterwards. The module also has the ledger of a test.
 ghost use Rattle.std.specs.Prelude.{◌≤◌};
 
+use std::alloc::Global;
 use std::fmt::Debug;
 use std::process::Abort;
-use thin_testing::{Answer, At, Case, Numbered, Wrong};
+use thin_testing::{Answer, At, Case, Ledger, Numbered, Wrong};
 use thin_vec::Growth;
 
 /// Asserts that a check found nothing wrong.
@@ -59,4 +60,9 @@ pub fn assert_at_most<R: Abort>(rt: &R, number: usize, most: usize)
     ensures at_most { number ≤ most }
 {
     assert!(rt; number <= most);
+}
+
+/// Returns a reference to a ledger that is never freed.
+pub fn leaked_ledger<R: Abort>(rt: &R, alloc: Global) -> &'static Ledger {
+    Ledger::leaked(alloc).expect(rt, "a ledger for the test")
 }

@@ -1,6 +1,6 @@
 //! Tests of the sweeps themselves: they make the calls that they should make, and see what is
 //! wrong.
-use crate::asserts::assert_right;
+use crate::asserts::{assert_right, leaked_ledger};
 use crate::sweep::{Calls, sweep};
 use crate::tests::Small;
 use std::process::Abort;
@@ -32,7 +32,7 @@ impl<G: Growth> Calls<Small, G> for Requests {
 // argument.
 #[test]
 fn sweep_makes_each_call_and_refuses_each_request(rt: HostRuntime) {
-    let ledger = Ledger::leaked(rt.alloc()).expect(&rt, "memory");
+    let ledger = leaked_ledger(&rt, rt.alloc());
     let swept = sweep::<Requests, Small, Doubling, _>(&rt, ledger, &[3, 8], &[0, 1], 5);
     assert_eq!(rt; swept, (56, 32));
     let swept = sweep::<Requests, Small, Doubling, _>(&rt, ledger, &[3, 8], &[0], 1);
@@ -113,7 +113,7 @@ fn checked<R: Abort>(rt: &R, case: &mut Case<Small, Doubling>, number: usize) ->
 
 #[test]
 fn detects_each_mistake(rt: HostRuntime) {
-    let ledger = Ledger::leaked(rt.alloc()).expect(&rt, "memory");
+    let ledger = leaked_ledger(&rt, rt.alloc());
     let mut number: usize = 0;
     for due in &FOUND {
         let found = mistake(&rt, ledger, number).err().map(|wrong| wrong.what);
@@ -124,7 +124,7 @@ fn detects_each_mistake(rt: HostRuntime) {
 
 #[test]
 fn detects_a_block_of_a_wrong_size(rt: HostRuntime) {
-    let ledger = Ledger::leaked(rt.alloc()).expect(&rt, "memory");
+    let ledger = leaked_ledger(&rt, rt.alloc());
     let found = two_items(&rt, ledger, 0).check_live(2, 4);
     assert_eq!(rt; found.err().map(|wrong| wrong.what), Some("bytes"));
 }
@@ -132,7 +132,7 @@ fn detects_a_block_of_a_wrong_size(rt: HostRuntime) {
 #[test]
 #[should_panic(expected = "failed: items, At")]
 fn detects_an_item_that_is_left_at_the_end(rt: HostRuntime) {
-    let ledger = Ledger::leaked(rt.alloc()).expect(&rt, "memory");
+    let ledger = leaked_ledger(&rt, rt.alloc());
     let case = two_items(&rt, ledger, 0);
     let item = case.item();
     assert_right(&rt, case.end());
@@ -159,7 +159,7 @@ fn kept(at: At) -> u64 {
 // new items, and those below 16 choose each pattern.
 #[test]
 fn arguments_choose_each_index_range_number_and_pattern(rt: HostRuntime) {
-    let ledger = Ledger::leaked(rt.alloc()).expect(&rt, "memory");
+    let ledger = leaked_ledger(&rt, rt.alloc());
     let (mut indices, mut ranges, mut counts, mut patterns) = (0_u64, 0_u64, 0_u64, 0_u64);
     for argument in 0..25_usize {
         let at = At::new(4, 1, argument);
@@ -211,7 +211,7 @@ fn claimed<R: Abort>(
 
 #[test]
 fn claims_tell_the_bounds_that_are_asked_for(rt: HostRuntime) {
-    let ledger = Ledger::leaked(rt.alloc()).expect(&rt, "memory");
+    let ledger = leaked_ledger(&rt, rt.alloc());
     assert_eq!(rt; claimed(&rt, ledger, 3, true), (3, Some(5)));
     assert_eq!(rt; claimed(&rt, ledger, 3, false), (3, None));
     assert_eq!(rt; claimed(&rt, ledger, usize::MAX, true), (usize::MAX, None));

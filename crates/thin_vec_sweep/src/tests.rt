@@ -4,6 +4,7 @@ ghost use Rattle.std.specs.Mem.{type_size};
 ghost use Rattle.std.specs.Prelude.{◌*◌, ◌<◌, ◌^◌};
 
 use crate::arrays::arrays;
+use crate::asserts::leaked_ledger;
 use crate::calls::adding::Adding;
 use crate::calls::bytes::Bytes;
 use crate::calls::copying::Copying;
@@ -57,7 +58,7 @@ fn sweeps<T: Numbered, R: Abort>(
 // Sweeps the calls that exist for all item types, of short lists of `T`, of lists of the given
 // lengths, and of lists with much spare capacity.
 fn sweep_all<T: Numbered, R: Abort>(rt: &R, alloc: Global, long: &[usize]) {
-    let ledger = Ledger::leaked(alloc).expect(rt, "memory");
+    let ledger = leaked_ledger(rt, alloc);
     sweeps::<T, R>(rt, ledger, &SHORT, &[0, 1, 4], ALL);
     sweeps::<T, R>(rt, ledger, long, &[0, 30], 30);
     sweeps::<T, R>(rt, ledger, &[1, 33, 100], &[300], 30);
@@ -66,7 +67,7 @@ fn sweep_all<T: Numbered, R: Abort>(rt: &R, alloc: Global, long: &[usize]) {
 // Sweeps the calls of the group `Adding`, for items of one more size or alignment. The other calls
 // request the blocks of lists by the same functions.
 fn sweep_sizes<T: Numbered, R: Abort>(rt: &R, alloc: Global, long: &[usize]) {
-    let ledger = Ledger::leaked(alloc).expect(rt, "memory");
+    let ledger = leaked_ledger(rt, alloc);
     sweep::<Adding, T, Doubling, R>(rt, ledger, &SHORT, &[0, 1, 4], ALL);
     sweep::<Adding, T, Doubling, R>(rt, ledger, long, &[0, 30], 30);
     sweep::<Adding, T, Doubling, R>(rt, ledger, &[1, 33, 100], &[300], 30);
@@ -124,7 +125,7 @@ fn sweeps_counted_items_of_24_bytes(rt: HostRuntime) {
 
 #[test]
 fn sweeps_items_of_512_bytes(rt: HostRuntime) {
-    let ledger = Ledger::leaked(rt.alloc()).expect(&rt, "memory");
+    let ledger = leaked_ledger(&rt, rt.alloc());
     sweeps::<Large, _>(&rt, ledger, &[0, 1, 3, 33], &[0, 4], 40);
 }
 
@@ -152,21 +153,21 @@ fn sweep_rule<G: Ruled, R: Abort>(rt: &R, ledger: &'static Ledger) {
 
 #[test]
 fn sweeps_counted_items_under_other_rules(rt: HostRuntime) {
-    let ledger = Ledger::leaked(rt.alloc()).expect(&rt, "memory");
+    let ledger = leaked_ledger(&rt, rt.alloc());
     sweep_rule::<PowerBytes, _>(&rt, ledger);
     sweep_rule::<Threefold, _>(&rt, ledger);
 }
 
 #[test]
 fn sweeps_counted_items_of_long_lists(rt: HostRuntime) {
-    let ledger = Ledger::leaked(rt.alloc()).expect(&rt, "memory");
+    let ledger = leaked_ledger(&rt, rt.alloc());
     sweeps::<Small, _>(&rt, ledger, &[4000], &[0, 1], 2);
     sweeps::<Small, _>(&rt, ledger, &[41_000], &[1], 1);
 }
 
 #[test]
 fn orders_lists_with_one_comparison_of_each_item(rt: HostRuntime) {
-    let ledger = Ledger::leaked(rt.alloc()).expect(&rt, "memory");
+    let ledger = leaked_ledger(&rt, rt.alloc());
     sweep::<Comparing, Small, Doubling, _>(&rt, ledger, &SHORT, &[0, 1, 9], ALL);
     sweep::<Comparing, Small, Doubling, _>(&rt, ledger, &[50, 150, 3000], &[0, 1], ALL);
     sweep::<Comparing, ThreeWords, Doubling, _>(&rt, ledger, &[1, 40], &[0], ALL);
@@ -174,7 +175,7 @@ fn orders_lists_with_one_comparison_of_each_item(rt: HostRuntime) {
 
 // Sweeps the calls that copy items.
 fn copies<T: Numbered + Copy, R: Abort>(rt: &R, alloc: Global) {
-    let ledger = Ledger::leaked(alloc).expect(rt, "memory");
+    let ledger = leaked_ledger(rt, alloc);
     sweep::<Copying, T, Doubling, R>(rt, ledger, &SHORT, &[0, 1, 4], ALL);
     sweep::<Copying, T, Doubling, R>(rt, ledger, &[100, 257, 1000], &[0, 1], 40);
 }
@@ -193,7 +194,7 @@ fn copies_items_of_all_sizes(rt: HostRuntime) {
 
 #[test]
 fn writes_and_copies_bytes(rt: HostRuntime) {
-    let ledger = Ledger::leaked(rt.alloc()).expect(&rt, "memory");
+    let ledger = leaked_ledger(&rt, rt.alloc());
     sweep::<Bytes, u8, Doubling, _>(&rt, ledger, &SHORT, &[0, 1, 60], ALL);
     sweep::<Bytes, u8, PowerBytes, _>(&rt, ledger, &LONG, &[0, 1, 60], ALL);
     sweep::<Bytes, u8, Doubling, _>(&rt, ledger, &[41_000], &[0], ALL);
@@ -203,7 +204,7 @@ fn writes_and_copies_bytes(rt: HostRuntime) {
 
 #[test]
 fn converts_arrays(rt: HostRuntime) {
-    let ledger = Ledger::leaked(rt.alloc()).expect(&rt, "memory");
+    let ledger = leaked_ledger(&rt, rt.alloc());
     arrays::<(), _>(&rt, ledger);
     arrays::<u8, _>(&rt, ledger);
     arrays::<CountedWord<'static>, _>(&rt, ledger);
@@ -219,7 +220,7 @@ fn cases<C: Calls<T, Doubling>, T: Numbered, R: Abort>(rt: &R, ledger: &'static 
 
 #[test]
 fn each_group_makes_each_of_its_calls_with_each_argument(rt: HostRuntime) {
-    let ledger = Ledger::leaked(rt.alloc()).expect(&rt, "memory");
+    let ledger = leaked_ledger(&rt, rt.alloc());
     assert_eq!(rt; cases::<Adding, Small, _>(&rt, ledger), 40 * 9 + 5 * 6);
     assert_eq!(rt; cases::<Bytes, u8, _>(&rt, ledger), 8 * 3);
     assert_eq!(rt; cases::<Comparing, Small, _>(&rt, ledger), 5 * 3);

@@ -17,8 +17,8 @@ impl<T, A: Allocator, G: Growth> ThinVec<T, A, G> {
     /// returns `value` in the error.
     ///
     /// A full list at least doubles its capacity, so on average, a push copies a constant number of
-    /// old items. The clause `preserved` says so: a list whose growths have copied fewer items than
-    /// its capacity, or none (`IsCheap`), stays such a list.
+    /// old items. The clause `preserved` says so: a list stays cheap (`IsCheap`), which bounds the
+    /// items that its growths have copied, and the requests that they have made, by its capacity.
     ///
     /// # Errors
     ///
