@@ -19,8 +19,8 @@
 //! calls that take an iterator, contracts leave the capacity open, so `filling` computes it, with
 //! the requests, the calls of the iterator, the cause of a failure, and the items in the list, in
 //! the error and in the rest of the iterator. Left out are `hash`, the calls that print, `write!`,
-//! `clone_from`, and most methods that a list has from slices: `list_tests` has those that can
-//! fail. The crate `list_tests` tries commands.
+//! `clone_from`, and most methods that a list has from slices. The crate `list_tests` tries
+//! `clone_from`, the sorts, the calls that write and print, and commands.
 //!
 //! To add a call, add an arm to the `match` of a file in `calls/`, before the calls that take fewer
 //! arguments. An arm makes the arguments, calls `begin` with the name of the call, makes the call,
