@@ -1,11 +1,12 @@
 //! Tests of what the contracts of `thin_vec` do not say: that a call succeeds if it gets the memory
 //! that it needs, makes no other request and no other call, and drops and frees everything.
 //!
-//! A sweep makes each call of a group (`Calls`) on lists of many lengths, spare capacities and item
-//! types, with several arguments, under several growth rules. It makes the call with enough memory,
-//! and then again with one of its requests refused, each in turn (of many requests, some of those
-//! in the middle are left out). A call that made no request is made again with all requests
-//! refused. Clones of counted items are requests, too. After the call:
+//! A sweep makes each call of a group (`Calls`), for one item type and one growth rule, on lists of
+//! many lengths and spare capacities, with several arguments. (`tests.rt` says which groups are
+//! swept for which item types and rules.) It makes the call with enough memory, and then again with
+//! one of its requests refused, each in turn (of many requests, some of those in the middle are
+//! left out). A call that made no request is made again with all requests refused. Clones of
+//! counted items are requests, too. After the call:
 //!
 //! - If no request was refused, the call succeeded, or its capacity overflowed before any request.
 //!   If a request was refused, it failed with `OutOfMemory`, and made no further request.
@@ -15,12 +16,10 @@
 //! - As many items exist as the list has, and one block, of the right size, if it has a capacity.
 //! - Nothing is left once the list is dropped, and the drop made no request.
 //!
-//! Items, capacities and returned values are proved, so a sweep does not compare them. But for the
-//! calls that take an iterator, contracts leave the capacity open, so `filling` computes it, with
-//! the requests, the calls of the iterator, the cause of a failure, and the items in the list, in
-//! the error and in the rest of the iterator. Left out are `hash`, the calls that print, `write!`,
-//! `clone_from`, and most methods that a list has from slices. The crate `list_tests` tries
-//! `clone_from`, the sorts, the calls that write and print, and commands.
+//! A sweep compares few items, capacities and returned values, since most of them are proved. For
+//! the calls that take an iterator, contracts leave the capacity open, so `filling` computes it,
+//! with the requests, the calls of the iterator, the cause of a failure, and the items in the list,
+//! in the error and in the rest of the iterator. Calls that no group has are for `list_tests`.
 //!
 //! To add a call, add an arm to the `match` of a file in `calls/`, before the calls that take fewer
 //! arguments. An arm makes the arguments, calls `begin` with the name of the call, makes the call,
