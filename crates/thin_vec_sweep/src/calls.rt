@@ -1,4 +1,5 @@
-//! Groups of calls. Some groups accept every item type, and others only types that are copied.
+//! Groups of calls. Some groups accept every item type, and others only types that can be copied or
+//! compared, or bytes.
 pub mod adding;
 pub mod bytes;
 pub mod copying;
