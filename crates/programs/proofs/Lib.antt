@@ -1,5 +1,4 @@
--- These modules contain lemmas. `ChangesLemmas` is about changes to a text, `RunLemmas` about
--- carrying out a single command, and `WordsLemmas` about parsing the words of a line one by one.
+-- These modules contain lemmas. `ChangesLemmas` is about changes to a text, and `RunLemmas` about
+-- carrying out a single command.
 mod ChangesLemmas
 mod RunLemmas
-mod WordsLemmas

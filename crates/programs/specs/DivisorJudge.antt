@@ -1,8 +1,7 @@
 -- A judge makes the decisions of the closure that a method such as `retain` calls. This file
 -- defines what a `DivisorJudge` decides for each item, and what it writes to the items.
-use Rattle.std.specs.Prelude.{◌≡◌, ℕ, List, Bool, ◌+◌, ◌/◌, ◌%◌, ◌^◌, ◌==◌}
+use Rattle.std.specs.Prelude.{ℕ, Bool, ◌+◌, ◌/◌, ◌%◌, ◌^◌, ◌==◌}
 use Rattle.thin_runner.specs.Judge.{CallbackModel}
-use Rattle.programs.specs.Words.{Spells}
 use Rattle.programs.specs.declared.replay.divisor_judge.DivisorJudge.{DivisorJudge}
 
 -- `number_for judge x` is the number that the judge computes for the item `x`. To make a decision,
@@ -38,11 +37,3 @@ model = record {
   key = λ judge x. (number_for judge x / judge.divisor, written judge x, counted judge);
   take = λ judge x. (chooses judge x, written judge x, counted judge);
 }
-
--- `SpellsJudge divisor stride added judge` holds if the texts `divisor`, `stride` and `added` spell
--- the fields of `judge` with these names, and `judge` has made no decisions yet.
-pub record SpellsJudge (divisor stride added : List ℕ) (judge : DivisorJudge) : Type 0 where
-  pub divisor_is : Spells divisor judge.divisor
-  pub stride_is : Spells stride judge.stride
-  pub added_is : Spells added judge.added
-  pub unasked : judge.offset ≡ 0

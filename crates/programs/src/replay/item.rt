@@ -1,5 +1,4 @@
 //! The type of the items. With another file in the place of this one, the lists have other items.
-ghost use Rattle.std.specs.Str.Parse.{ParsesUnsigned};
 
 use crate::replay::line_error::LineError;
 use crate::replay::words::number_of;
@@ -8,8 +7,6 @@ use crate::replay::words::number_of;
 pub type Item = u64;
 
 /// Parses a word as an item.
-pub fn item_of(word: &str) -> Result<Item, LineError>
-    ensures parses { ParsesUnsigned 64 10 word.now result }
-{
+pub fn item_of(word: &str) -> Result<Item, LineError> {
     number_of(word, "ITEM")
 }

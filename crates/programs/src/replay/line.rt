@@ -19,24 +19,15 @@ pub enum Line<A: Allocator> {
 }
 
 impl<A: Allocator + Copy> Line<A> {
-    ghost use Rattle.std.specs.Prelude.{IfOk};
-    ghost use Rattle.programs.specs.Lines.{HasWords, IsLine};
-    ghost use Rattle.programs.specs.Words.{Words};
-
     /// Parses a line. Fails if the line has none of the forms that `help` prints, if a word cannot
     /// be parsed, or if there is not enough memory.
-    pub fn parse(alloc: A, text: &str) -> Result<Line<A>, LineError>
-        ensures says { IfOk result (λ line. (words : Words) × HasWords text.now words
-            × IsLine words line) }
-    {
+    pub fn parse(alloc: A, text: &str) -> Result<Line<A>, LineError> {
         let words: Vec<&str, A> = text.split_whitespace().collect(alloc)?;
         Line::from_words(alloc, words.as_slice())
     }
 
     // Parses the words of a line, and fails in the same cases as `Line::parse`.
-    fn from_words(alloc: A, words: &[&str]) -> Result<Line<A>, LineError>
-        ensures says { IfOk result (IsLine words.now) }
-    {
+    fn from_words(alloc: A, words: &[&str]) -> Result<Line<A>, LineError> {
         match words {
             ["help"] => Ok(Line::Help),
             ["new"] => Ok(Line::New),

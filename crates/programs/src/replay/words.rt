@@ -1,7 +1,4 @@
 //! Parsers for the individual words of a line.
-ghost use Rattle.std.specs.Prelude.{IfOk};
-ghost use Rattle.std.specs.Str.Parse.{ParsesUnsigned};
-ghost use Rattle.programs.specs.Words.{IsStep, SpellAll, SpellsSteps};
 
 use crate::replay::item::{Item, item_of};
 use crate::replay::line_error::LineError;
@@ -11,9 +8,7 @@ use thin_vec::ThinVec;
 
 /// Parses a word as a number. Fails if the word is not a number. The error refers to the word as
 /// `name`, for example `ITEM`.
-pub fn number_of(word: &str, name: &'static str) -> Result<u64, LineError>
-    ensures parses { ParsesUnsigned 64 10 word.now result }
-{
+pub fn number_of(word: &str, name: &'static str) -> Result<u64, LineError> {
     match word.parse::<u64>() {
         Ok(number) => Ok(number),
         Err(_) => Err(LineError::NotANumber(name)),
@@ -22,9 +17,7 @@ pub fn number_of(word: &str, name: &'static str) -> Result<u64, LineError>
 
 /// Parses a word as an index or a count. Fails if the word is not a number. The error refers to the
 /// word as `name`, for example `INDEX`.
-pub fn count_of(word: &str, name: &'static str) -> Result<usize, LineError>
-    ensures parses { ParsesUnsigned 64 10 word.now result }
-{
+pub fn count_of(word: &str, name: &'static str) -> Result<usize, LineError> {
     match word.parse::<usize>() {
         Ok(count) => Ok(count),
         Err(_) => Err(LineError::NotANumber(name)),
@@ -32,9 +25,7 @@ pub fn count_of(word: &str, name: &'static str) -> Result<usize, LineError>
 }
 
 /// Parses each word as an item, and returns a `Vec` of the items in order.
-pub fn items_of<A: Allocator>(alloc: A, words: &[&str]) -> Result<Vec<Item, A>, LineError>
-    ensures items { IfOk result (λ items. SpellAll words.now items.items) }
-{
+pub fn items_of<A: Allocator>(alloc: A, words: &[&str]) -> Result<Vec<Item, A>, LineError> {
     let mut items = Vec::new(alloc);
     for word in words {
         items.push(item_of(word)?)?;
@@ -43,9 +34,7 @@ pub fn items_of<A: Allocator>(alloc: A, words: &[&str]) -> Result<Vec<Item, A>, 
 }
 
 /// Parses each word as an item, and returns a `ThinVec` of the items in order.
-pub fn list_of<A: Allocator>(alloc: A, words: &[&str]) -> Result<ThinVec<Item, A>, LineError>
-    ensures items { IfOk result (λ list. SpellAll words.now list.items) }
-{
+pub fn list_of<A: Allocator>(alloc: A, words: &[&str]) -> Result<ThinVec<Item, A>, LineError> {
     let mut list = ThinVec::new(alloc);
     for word in words {
         list.push(item_of(word)?).map_err(AllocError::from)?;
@@ -55,9 +44,7 @@ pub fn list_of<A: Allocator>(alloc: A, words: &[&str]) -> Result<ThinVec<Item, A
 
 /// Parses a word as steps, which are calls to `next` or `next_back`. The word `-` stands for no
 /// steps. In any other word, each letter stands for one step.
-pub fn steps_of<A: Allocator>(alloc: A, word: &str) -> Result<Vec<Step, A>, LineError>
-    ensures steps { IfOk result (λ steps. SpellsSteps word.now steps.items) }
-{
+pub fn steps_of<A: Allocator>(alloc: A, word: &str) -> Result<Vec<Step, A>, LineError> {
     let mut steps = Vec::new(alloc);
     if word == "-" {
         return Ok(steps);
@@ -70,9 +57,7 @@ pub fn steps_of<A: Allocator>(alloc: A, word: &str) -> Result<Vec<Step, A>, Line
 }
 
 // Parses a letter as a step, which is a call to `next` or `next_back`.
-fn step_of(letter: u8) -> Result<Step, LineError>
-    ensures step { IfOk result (IsStep letter) }
-{
+fn step_of(letter: u8) -> Result<Step, LineError> {
     match letter {
         b'f' => Ok(Step::Front),
         b'b' => Ok(Step::Back),

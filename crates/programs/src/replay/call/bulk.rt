@@ -1,6 +1,4 @@
 //! The parser for commands that add several items.
-ghost use Rattle.std.specs.Prelude.{IfOk, IfSome};
-ghost use Rattle.programs.specs.Lines.{SaysUnjudged};
 
 use crate::replay::item::{Item, item_of};
 use crate::replay::line_error::LineError;
@@ -10,9 +8,10 @@ use thin_runner::command::Command;
 
 /// Parses the words of a line as a command that adds several items. Returns `None` if the words do
 /// not have the form of such a command.
-pub fn parse<A: Allocator>(alloc: A, words: &[&str]) -> Result<Option<Command<Item, A>>, LineError>
-    ensures says { IfOk result (λ found. IfSome found (SaysUnjudged words.now)) }
-{
+pub fn parse<A: Allocator>(
+    alloc: A,
+    words: &[&str],
+) -> Result<Option<Command<Item, A>>, LineError> {
     Ok(Some(match words {
         ["resize", length, item] => Command::Resize(count_of(length, "LENGTH")?, item_of(item)?),
         ["extend_from_slice", items @ ..] => Command::ExtendFromSlice(items_of(alloc, items)?),

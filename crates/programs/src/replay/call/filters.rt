@@ -1,7 +1,5 @@
 //! The parser for commands that call methods of a judge. A judge makes decisions in place of a
 //! closure: for example, it decides which items `retain` keeps.
-ghost use Rattle.std.specs.Prelude.{IfOk, IfSome};
-ghost use Rattle.programs.specs.Lines.{IsCall, IsFilter};
 
 use crate::replay::call::Call;
 use crate::replay::divisor_judge::DivisorJudge;
@@ -18,9 +16,7 @@ use thin_runner::command::Command;
 /// # Errors
 ///
 /// Fails if the words have this form, but a word after the name of the command is invalid.
-pub fn parse<A: Allocator>(words: &[&str]) -> Result<Option<Call<A>>, LineError>
-    ensures says { IfOk result (λ found. IfSome found (IsCall words.now)) }
-{
+pub fn parse<A: Allocator>(words: &[&str]) -> Result<Option<Call<A>>, LineError> {
     match words {
         [name, divisor, stride, added] => {
             let Some(command) = filter(name) else {
@@ -42,9 +38,7 @@ pub fn parse<A: Allocator>(words: &[&str]) -> Result<Option<Call<A>>, LineError>
 
 // Returns the command if `name` is that of `Retain`, `RetainMut`, `DedupBy` or `DedupByKey`, and
 // otherwise `None`.
-fn filter<A: Allocator>(name: &str) -> Option<Command<Item, A>>
-    ensures filter { IfSome result (IsFilter name.now) }
-{
+fn filter<A: Allocator>(name: &str) -> Option<Command<Item, A>> {
     match name {
         "retain" => Some(Command::Retain),
         "retain_mut" => Some(Command::RetainMut),

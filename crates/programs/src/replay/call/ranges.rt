@@ -1,6 +1,4 @@
 //! The parser for `dedup`, and for commands that remove or replace a range.
-ghost use Rattle.std.specs.Prelude.{IfOk, IfSome};
-ghost use Rattle.programs.specs.Lines.{SaysUnjudged};
 
 use crate::replay::item::Item;
 use crate::replay::line_error::LineError;
@@ -18,9 +16,7 @@ use thin_runner::command::Command;
 pub fn parse<A: Allocator + Copy>(
     alloc: A,
     words: &[&str],
-) -> Result<Option<Command<Item, A>>, LineError>
-    ensures says { IfOk result (λ found. IfSome found (SaysUnjudged words.now)) }
-{
+) -> Result<Option<Command<Item, A>>, LineError> {
     Ok(Some(match words {
         ["dedup"] => Command::Dedup,
         ["drain", start, end, steps] => {

@@ -1,6 +1,4 @@
 //! The parser for commands that change the capacity of the list, split the list, or clone the list.
-ghost use Rattle.std.specs.Prelude.{IfOk, IfSome};
-ghost use Rattle.programs.specs.Lines.{SaysUnjudged};
 
 use crate::replay::item::Item;
 use crate::replay::line_error::LineError;
@@ -10,9 +8,7 @@ use thin_runner::command::Command;
 
 /// Parses the words as a command that changes the capacity of the list, or splits or clones the
 /// list. Returns `None` if they have another form.
-pub fn parse<A: Allocator>(words: &[&str]) -> Result<Option<Command<Item, A>>, LineError>
-    ensures says { IfOk result (λ found. IfSome found (SaysUnjudged words.now)) }
-{
+pub fn parse<A: Allocator>(words: &[&str]) -> Result<Option<Command<Item, A>>, LineError> {
     Ok(Some(match words {
         ["reserve", count] => Command::Reserve(count_of(count, "COUNT")?),
         ["reserve_exact", count] => Command::ReserveExact(count_of(count, "COUNT")?),

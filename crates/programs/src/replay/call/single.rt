@@ -1,6 +1,4 @@
 //! The parser for commands that add, remove or replace one item, and for `truncate` and `clear`.
-ghost use Rattle.std.specs.Prelude.{IfOk, IfSome};
-ghost use Rattle.programs.specs.Lines.{SaysUnjudged};
 
 use crate::replay::item::{Item, item_of};
 use crate::replay::line_error::LineError;
@@ -10,9 +8,7 @@ use thin_runner::command::Command;
 
 /// Parses the words as a command that adds, removes or replaces one item, or as `truncate` or
 /// `clear`. Returns `None` if they have another form.
-pub fn parse<A: Allocator>(words: &[&str]) -> Result<Option<Command<Item, A>>, LineError>
-    ensures says { IfOk result (λ found. IfSome found (SaysUnjudged words.now)) }
-{
+pub fn parse<A: Allocator>(words: &[&str]) -> Result<Option<Command<Item, A>>, LineError> {
     Ok(Some(match words {
         ["push", item] => Command::Push(item_of(item)?),
         ["pop"] => Command::Pop,
