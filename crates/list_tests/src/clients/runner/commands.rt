@@ -10,6 +10,7 @@ use std::alloc::{AllocError, Global};
 use std::process::Abort;
 use thin_runner::command::{Command, Reply};
 use thin_testing::{Ledger, Numbered};
+use thin_vec::Doubling;
 
 // What each command does on a list of the items 1, 2, 2, 3. A line has the capacity before and the
 // command, which `nth_command` makes, and then the outcomes: with the first request refused, with
@@ -366,7 +367,7 @@ fn outcome(rt: &impl Abort, ledger: &'static Ledger, number: usize, refused: u64
 }
 
 // Prints the last reply, or why there is none. Asserts that the earlier reply is as before.
-fn last_text(rt: &impl Abort, alloc: Global, ran: Ran<Item>) -> String {
+fn last_text(rt: &impl Abort, alloc: Global, ran: Ran<Item, Doubling>) -> String {
     let Ran {
         cause,
         requests: _,

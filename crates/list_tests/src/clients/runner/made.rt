@@ -6,7 +6,7 @@ use thin_runner::command::{Command, Reply, Step};
 use thin_runner::judge::Judge;
 use thin_runner::runner::run;
 use thin_testing::{Counted, Ledger, Lender, Numbered};
-use thin_vec::{ThinVec, ThinVecError};
+use thin_vec::{Growth, ThinVec, ThinVecError};
 
 /// An item that the ledger counts. A clone of it is a request.
 pub type Item = Counted<'static>;
@@ -82,24 +82,24 @@ pub fn is_one(bits: u64, index: usize) -> bool {
 
 /// What a call to `run` did.
 #[derive(Drop)]
-pub struct Ran<T: Drop> {
+pub struct Ran<T: Drop, G: Growth> {
     /// Why the call failed.
     pub cause: Option<ThinVecError>,
     pub requests: u64,
-    pub replies: Vec<Told<T>, Lender>,
+    pub replies: Vec<Reply<T, Lender, G>, Lender>,
 }
 
 /// Executes the commands by one call to `run`, with request number `refused` refused. Before, the
 /// replies are one `Item(None)`, and there is no room for another one. Afterwards, there is room
 /// for no more replies than needed, or for 4.
-pub fn run_all<T: Numbered, J: Judge<T>>(
+pub fn run_all<T: Numbered, G: Growth, J: Judge<T>>(
     rt: &impl Abort,
     ledger: &'static Ledger,
-    list: &mut List<T>,
-    commands: Vec<Asked<T>, Lender>,
+    list: &mut ThinVec<T, Lender, G>,
+    commands: Vec<Command<T, Lender, G>, Lender>,
     judge: &J,
     refused: u64,
-) -> Ran<T> {
+) -> Ran<T, G> {
     let mut replies = room(rt, &ledger.alloc, 1);
     put(rt, &mut replies, Reply::Item(None));
     ledger.begin(refused);
@@ -118,14 +118,14 @@ pub fn run_all<T: Numbered, J: Judge<T>>(
 }
 
 /// Executes one command as `run_all` does.
-pub fn run_single<T: Numbered, J: Judge<T>>(
+pub fn run_single<T: Numbered, G: Growth, J: Judge<T>>(
     rt: &impl Abort,
     ledger: &'static Ledger,
-    list: &mut List<T>,
-    command: Asked<T>,
+    list: &mut ThinVec<T, Lender, G>,
+    command: Command<T, Lender, G>,
     judge: &J,
     refused: u64,
-) -> Ran<T> {
+) -> Ran<T, G> {
     let mut commands = room(rt, &ledger.alloc, 1);
     put(rt, &mut commands, command);
     run_all(rt, ledger, list, commands, judge, refused)
@@ -133,7 +133,11 @@ pub fn run_single<T: Numbered, J: Judge<T>>(
 
 /// Asserts that exactly the items of the list exist, and one block if it has a capacity. Then drops
 /// the list, and asserts that nothing is left.
-pub fn assert_clean<T: Numbered>(rt: &impl Abort, ledger: &'static Ledger, list: List<T>) {
+pub fn assert_clean<T: Numbered, G: Growth>(
+    rt: &impl Abort,
+    ledger: &'static Ledger,
+    list: ThinVec<T, Lender, G>,
+) {
     assert_live::<T>(rt, ledger, list.len(), list.has_capacity());
     drop(list);
     assert_live::<T>(rt, ledger, 0, false);
